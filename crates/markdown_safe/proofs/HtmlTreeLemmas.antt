@@ -81,11 +81,20 @@ closes_in_turn (void_tag name attributes ends ∷ pieces) around h =
     before_tree around (void_tag name attributes ends ∷ []) pieces (λ after. void_element name attributes ends after)
     (λ t. refl) (closes_in_turn pieces around h)
 
+-- these bytes are a safe tree, whose tags do this
+pub record IsTreeOf (html : List ℕ) (turns : List Turn) : Type 0 where
+  pub whole : IsSafeTree html
+  pub does : flat_map turns_of (tree_pieces whole.tree) ≡ turns
+
 -- markup whose tags nest is a safe tree
-pub tree_of_markup : {turns : List Turn} (html : List ℕ) → IsMarkup html turns → TurnsTo [] turns [] → IsSafeTree html
+pub tree_of_markup : {turns : List Turn} (html : List ℕ) → IsMarkup html turns → TurnsTo [] turns []
+    → IsTreeOf html turns
 tree_of_markup {turns} html m nests =
     let t = closes_in_turn m.pieces [] (subst (λ ts. TurnsTo [] ts []) (sym m.does) nests) in record {
-      tree = t.0;
-      are = subst (λ l. html ≡ flat_map bytes_of_piece l) t.1 m.are;
-      safe = subst (λ l. list_all is_safe_piece l ≡ true) t.1 m.safe;
+      whole = record {
+        tree = t.0;
+        are = subst (λ l. html ≡ flat_map bytes_of_piece l) t.1 m.are;
+        safe = subst (λ l. list_all is_safe_piece l ≡ true) t.1 m.safe;
+      };
+      does = subst (λ l. flat_map turns_of l ≡ turns) t.1 m.does;
     }

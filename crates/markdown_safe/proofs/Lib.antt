@@ -1,5 +1,6 @@
 -- Lemmas: of safe HTML, of URLs and of the iterators.
 pub mod SafeHtmlLemmas
+pub mod RawEventsLemmas
 pub mod SafeTagsLemmas
 pub mod SafeEventsLemmas
 pub mod UrlLemmas
@@ -7,5 +8,15 @@ pub mod TargetLemmas
 pub mod TagStartsLemmas
 pub mod HtmlTreeLemmas
 pub mod NestedEventsLemmas
+pub mod PlacedTreeLemmas
+pub mod PlacedEventsLemmas
+pub mod PagePartsLemmas
+pub mod PagePlacesLemmas
+pub mod ShallowLemmas
+pub mod PreparedEventsLemmas
+pub mod SafeEventsByRulesLemmas
+pub mod PlacedExamples
 pub mod SafeItemsLemmas
 pub mod SafeRenderingLemmas
+pub mod CommentLemmas
+pub mod RawHtmlExamples

@@ -9,26 +9,26 @@ use Rattle.markdown_base.specs.Event as event
 use Rattle.markdown_base.specs.Event.{EventView, TagView, start, end, tag_end}
 use Rattle.markdown_base.specs.declared.tag.TagEnd.{TagEnd}
 use Rattle.markdown_base.specs.declared.tag.TagEnd.TheVariants as tag_ends
-use Rattle.markdown_out.specs.EventHtml.{html_of}
+use Rattle.markdown_out.specs.EventHtml.{html_by}
 use Rattle.markdown_out.specs.LookBacks.{OpenImageView, image_after, image_before, told_by, head_after, unless_inside}
-use Rattle.markdown_safe.specs.SafeEvents.{safe_event, safe_events, safe_tag}
-use Rattle.markdown_safe.specs.HtmlTree.{IsSafeTree}
+use Rattle.markdown_out.specs.declared.html.rules.HtmlRules.{HtmlRules}
+use Rattle.markdown_safe.specs.SafeEvents.{safe_event}
 use Rattle.markdown_event_laws.specs.NestedEvents.{past_nearest, awaited_after, IsAwaited, NestFrom, AreNested}
 use Rattle.markdown_event_laws.specs.NestedEvents.{ends_table, ends_cells, nearest_is, starts_table, keeps_tables_whole}
 use Rattle.markdown_event_laws.specs.NestedEvents.{keep_tables_whole, tables_are_whole}
 use Rattle.markdown_safe.proofs.SafeHtmlLemmas.{Turn}
 use Rattle.markdown_safe.proofs.SafeTagsLemmas.{event_turns, start_turns, end_turns, level_name, cell_name}
 use Rattle.markdown_safe.proofs.SafeEventsLemmas.{turns_by_image, turns_before, html_is_markup}
-use Rattle.markdown_safe.proofs.HtmlTreeLemmas.{TurnsTo, turns-append, tree_of_markup}
+use Rattle.markdown_safe.proofs.HtmlTreeLemmas.{TurnsTo, turns-append, IsTreeOf, tree_of_markup}
 
 -- the End is that of a table's head
-abbrev ends_head : TagEnd → Bool
+abbrev pub ends_head : TagEnd → Bool
 ends_head tag_ends.TableHead = true
 ends_head other = false
 
 -- The elements of a tag whose End is awaited, the innermost first. A table has no `tbody` yet where its head is still
 -- to come, or open; a cell is that of a head where it stands in one.
-abbrev own : (bare : Bool) → (in_head : Bool) → TagEnd → List (List ℕ)
+abbrev pub own : (bare : Bool) → (in_head : Bool) → TagEnd → List (List ℕ)
 own bare head tag_ends.Paragraph = codes "p" ∷ []
 own bare head (tag_ends.Heading l) = level_name l ∷ []
 own bare head (tag_ends.BlockQuote kind) = codes "blockquote" ∷ []
@@ -56,13 +56,13 @@ own bare head tag_ends.Image = []
 own bare head (tag_ends.MetadataBlock kind) = []
 
 -- the elements that are open where these Ends are awaited; `bare`: the nearest is a table whose head is still to come
-abbrev elements : (bare : Bool) → List TagEnd → List (List ℕ)
+abbrev pub elements : (bare : Bool) → List TagEnd → List (List ℕ)
 elements bare [] = []
 elements bare (e ∷ awaited) = own bare (nearest_is ends_head awaited) e ++ elements (ends_head e) awaited
 
 -- what stands directly around the tag of an End: a table around a head and a row, a head or a row around a cell, and
 -- no table around a table
-abbrev Fits : TagEnd → List TagEnd → Type 0
+abbrev pub Fits : TagEnd → List TagEnd → Type 0
 Fits tag_ends.TableHead awaited = nearest_is ends_table awaited ≡ true
 Fits tag_ends.TableRow awaited = nearest_is ends_table awaited ≡ true
 Fits tag_ends.TableCell awaited = nearest_is ends_cells awaited ≡ true
@@ -70,43 +70,43 @@ Fits tag_ends.Table awaited = list_any ends_table awaited ≡ false
 Fits other awaited = Unit {0}
 
 -- so it is with all
-abbrev AllFit : List TagEnd → Type 0
+abbrev pub AllFit : List TagEnd → Type 0
 AllFit [] = Unit {0}
 AllFit (e ∷ awaited) = Fits e awaited × AllFit awaited
 
 -- whether cells belong to a head where these Ends are awaited, if that can be told: the innermost table has a head, and
 -- it is open or not
-abbrev in_head : (bare : Bool) → List TagEnd → Option Bool
+abbrev pub in_head : (bare : Bool) → List TagEnd → Option Bool
 in_head bare [] = None
 in_head bare (tag_ends.TableHead ∷ awaited) = Some true
 in_head true (tag_ends.Table ∷ awaited) = None
 in_head false (tag_ends.Table ∷ awaited) = Some false
 in_head bare (other ∷ awaited) = in_head false awaited
 
-abbrev Agrees : Option Bool → Bool → Type 0
+abbrev pub Agrees : Option Bool → Bool → Type 0
 Agrees None head = Unit {0}
 Agrees (Some told) head = head ≡ told
 
 -- what holds outside images, between two events
-record Stands (turns : List Turn) (head bare : Bool) (awaited : List TagEnd) : Type 0 where
+pub record Stands (turns : List Turn) (head bare : Bool) (awaited : List TagEnd) : Type 0 where
   pub nest : TurnsTo [] turns (elements bare awaited)
   pub fit : AllFit awaited
   pub told : Agrees (in_head bare awaited) head
   pub near : bare ≡ true → nearest_is ends_table awaited ≡ true
 
 -- and inside an image: the Starts inside it are awaited before its End
-record IsInImage (starts : ℕ) (turns : List Turn) (head : Bool) (awaited : List TagEnd) : Type 0 where
+pub record IsInImage (starts : ℕ) (turns : List Turn) (head : Bool) (awaited : List TagEnd) : Type 0 where
   pub inner : List TagEnd
   pub outer : List TagEnd
   pub are : awaited ≡ inner ++ tag_ends.Image ∷ outer
   pub count : length inner ≡ starts
   pub outside : Stands turns head false outer
 
-abbrev StandsBy : Option OpenImageView → List Turn → (head bare : Bool) → List TagEnd → Type 0
+abbrev pub StandsBy : Option OpenImageView → List Turn → (head bare : Bool) → List TagEnd → Type 0
 StandsBy None turns head bare awaited = Stands turns head bare awaited
 StandsBy (Some i) turns head bare awaited = IsInImage i.starts turns head awaited
 
-no : {A : Type 0} → false ≡ true → A
+pub no : {A : Type 0} → false ≡ true → A
 no h = cc h
 
 is_table : (e : TagEnd) → ends_table e ≡ true → e ≡ tag_ends.Table
@@ -114,11 +114,11 @@ is_table tag_ends.Table h = refl
 is_table other h = no h
 
 -- a table is the nearest
-record IsNearTable (awaited : List TagEnd) : Type 0 where
+pub record IsNearTable (awaited : List TagEnd) : Type 0 where
   pub rest : List TagEnd
   pub are : awaited ≡ tag_ends.Table ∷ rest
 
-near_table : (awaited : List TagEnd) → nearest_is ends_table awaited ≡ true → IsNearTable awaited
+pub near_table : (awaited : List TagEnd) → nearest_is ends_table awaited ≡ true → IsNearTable awaited
 near_table [] h = no h
 near_table (e ∷ awaited) h = record { rest = awaited; are = ap (λ x. x ∷ awaited) (is_table e h) }
 
@@ -151,8 +151,8 @@ further {turns} {head} {bare} {awaited} more around s h =
 -- a Start outside images, but for that of an image
 abbrev BeginsAt : TagView → List Turn → (head : Bool) → List TagEnd → Type 0
 BeginsAt (event.image i) turns head awaited = Unit {0}
-BeginsAt tag turns head awaited = Stands (turns ++ start_turns head (safe_tag tag))
-    (head_after head (start (safe_tag tag))) (starts_table (start tag)) (tag_end tag ∷ awaited)
+BeginsAt tag turns head awaited = Stands (turns ++ start_turns head tag)
+    (head_after head (start tag)) (starts_table (start tag)) (tag_end tag ∷ awaited)
 
 head_begins : (turns : List Turn) (head : Bool) (awaited : List TagEnd) → Stands turns head true awaited
     → BeginsAt event.table_head turns head awaited
@@ -170,7 +170,7 @@ cell_begins turns head awaited s k = record {
   near = λ h. no h;
 }
 
-not_true : (b : Bool) → not b ≡ true → b ≡ false
+pub not_true : (b : Bool) → not b ≡ true → b ≡ false
 not_true true h = no h
 not_true false h = refl
 
@@ -249,7 +249,7 @@ ending e turns head true awaited s k = no k
 abbrev OtherAt : EventView → List Turn → (head bare : Bool) → List TagEnd → Type 0
 OtherAt (start tag) turns head bare awaited = Unit {0}
 OtherAt (end e) turns head bare awaited = Unit {0}
-OtherAt e turns head bare awaited = Stands (turns ++ event_turns head (safe_event e)) head bare awaited
+OtherAt e turns head bare awaited = Stands (turns ++ event_turns head e) head bare awaited
 
 other_event : (e : EventView) (turns : List Turn) (head bare : Bool) (awaited : List TagEnd)
     → Stands turns head bare awaited → OtherAt e turns head bare awaited
@@ -267,9 +267,9 @@ other_event e turns head bare awaited s =
     record { nest = further _ _ s refl; fit = s.fit; told = s.told; near = s.near }
 
 -- what holds after an event
-abbrev After : Option OpenImageView → EventView → List Turn → (head : Bool) → List TagEnd → Type 0
-After image e turns head awaited = StandsBy (image_after image (safe_event e))
-    (turns ++ turns_by_image image head (safe_event e)) (unless_inside head_after image head (safe_event e))
+abbrev pub After : Option OpenImageView → EventView → List Turn → (head : Bool) → List TagEnd → Type 0
+After image e turns head awaited = StandsBy (image_after image e)
+    (turns ++ turns_by_image image head e) (unless_inside head_after image head e)
     (starts_table e) (awaited_after e awaited)
 
 -- a Start inside an image, an End, and another event
@@ -309,7 +309,7 @@ end_inside starts turns head awaited s = by_inner s.inner s.are s.count
 
 inside_after : (starts : ℕ) (title : List ℕ) (e : EventView) (turns : List Turn) (head : Bool) (awaited : List TagEnd)
     → IsInImage starts turns head awaited
-    → StandsBy (image_after (Some (record { starts = starts; title = title })) (safe_event e)) turns head
+    → StandsBy (image_after (Some (record { starts = starts; title = title })) e) turns head
     (starts_table e) (awaited_after e awaited)
 inside_after zero title (start tag) turns head awaited s = start_inside zero title tag turns head awaited s
 inside_after (suc n) title (start tag) turns head awaited s = start_inside (suc n) title tag turns head awaited s
@@ -350,12 +350,12 @@ outside_after (start tag) turns head bare awaited s is k = begins tag turns head
 outside_after (end e) turns head bare awaited s is k = end_outside e turns head bare awaited s is k
 outside_after e turns head bare awaited s is k = other_event e turns head false awaited (not_bare bare k s)
 
-event_after : (image : Option OpenImageView) (e : EventView) (turns : List Turn) (head bare : Bool)
+pub event_after : (image : Option OpenImageView) (e : EventView) (turns : List Turn) (head bare : Bool)
     (awaited : List TagEnd) → StandsBy image turns head bare awaited → IsAwaited e awaited
     → keeps_tables_whole e awaited bare ≡ true → After image e turns head awaited
 event_after None e turns head bare awaited s is k = outside_after e turns head bare awaited s is k
 event_after (Some i) e turns head bare awaited s is k =
-    subst (λ ts. StandsBy (image_after (Some i) (safe_event e)) ts head (starts_table e) (awaited_after e awaited))
+    subst (λ ts. StandsBy (image_after (Some i) e) ts head (starts_table e) (awaited_after e awaited))
     (sym (append-nil turns)) (inside_after i.starts i.title e turns head awaited s)
 
 -- after the last event nothing is open
@@ -370,28 +370,29 @@ at_end (Some i) turns head bare s = by_inner s.inner s.are
 
 -- event by event
 nests : (left before : List EventView) (awaited : List TagEnd) (bare : Bool)
-    → StandsBy (image_before (map safe_event before)) (turns_before (map safe_event before))
-    (told_by head_after true (map safe_event before)) bare awaited
+    → StandsBy (image_before before) (turns_before before)
+    (told_by head_after true before) bare awaited
     → NestFrom awaited left → keep_tables_whole awaited bare left ≡ true
-    → TurnsTo [] (turns_before (map safe_event (reverse left ++ before))) []
+    → TurnsTo [] (turns_before (reverse left ++ before)) []
 nests [] before awaited bare s nest whole =
-    at_end (image_before (map safe_event before)) (turns_before (map safe_event before))
-    (told_by head_after true (map safe_event before)) bare
-    (subst (λ l. StandsBy (image_before (map safe_event before)) (turns_before (map safe_event before))
-    (told_by head_after true (map safe_event before)) bare l) nest s)
+    at_end (image_before before) (turns_before before)
+    (told_by head_after true before) bare
+    (subst (λ l. StandsBy (image_before before) (turns_before before)
+    (told_by head_after true before) bare l) nest s)
 nests (e ∷ left) before awaited bare s nest whole =
     let k = and_parts (keeps_tables_whole e awaited bare)
     (keep_tables_whole (awaited_after e awaited) (starts_table e) left) whole in
-    let after = event_after (image_before (map safe_event before)) e (turns_before (map safe_event before))
-    (told_by head_after true (map safe_event before)) bare awaited s nest.0 k.0 in
-    subst (λ l. TurnsTo [] (turns_before (map safe_event l)) [])
+    let after = event_after (image_before before) e (turns_before before)
+    (told_by head_after true before) bare awaited s nest.0 k.0 in
+    subst (λ l. TurnsTo [] (turns_before l) [])
     (sym (append_assoc (reverse left) (e ∷ []) before) ∙ ap (λ l. l ++ before) (sym (reverse-append (e ∷ []) left)))
     (nests left (e ∷ before) (awaited_after e awaited) (starts_table e) after nest.1 k.1)
 
--- the HTML of nested events is a safe tree
-pub html_is_tree : (events : List EventView) → AreNested events → tables_are_whole events ≡ true
-    → IsSafeTree (html_of (safe_events events))
-html_is_tree events nest whole =
+-- the HTML of nested events that are made safe is a safe tree, whose tags do what those of the events do
+pub tree_of_events : (form : HtmlRules) (prefix : List ℕ) (events : List EventView) → AreNested events
+    → tables_are_whole events ≡ true
+    → IsTreeOf (html_by form (map (safe_event prefix) events)) (turns_before (reverse events))
+tree_of_events form prefix events nest whole =
     let turns = nests events [] [] false (record { nest = refl; fit = tt; told = tt; near = λ h. no h }) nest whole in
-    tree_of_markup (html_of (safe_events events)) (html_is_markup events)
-    (subst (λ l. TurnsTo [] (turns_before (map safe_event l)) []) (append-nil (reverse events)) turns)
+    tree_of_markup (html_by form (map (safe_event prefix) events)) (html_is_markup form prefix events)
+    (subst (λ l. TurnsTo [] (turns_before l) []) (append-nil (reverse events)) turns)

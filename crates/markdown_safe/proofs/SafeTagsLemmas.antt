@@ -26,7 +26,8 @@ use Rattle.markdown_out.specs.Escapes.{text_escaped, attribute_escaped, destinat
 use Rattle.markdown_out.specs.EventHtml.{outside_parts}
 use Rattle.markdown_out.specs.LookBacks.{Past, place}
 use Rattle.markdown_out.specs.TagHtml.{new_line, heading_parts, quote_class, code_block_parts, cell_style, link_scheme}
-use Rattle.markdown_out.specs.TagHtml.{link_parts, start_parts, end_parts, language}
+use Rattle.markdown_out.specs.TagHtml.{leaves_site, link_parts, start_parts, end_parts, language}
+use Rattle.markdown_out.specs.TagHtml.{rel_attribute, title_parts}
 use Rattle.markdown_out.specs.TagHtml.{level_digit}
 use Rattle.markdown_out.specs.TagHtml.{numbered_list_parts}
 use Rattle.markdown_safe.specs.SafeUrl.{is_safe_url, link_schemes}
@@ -35,7 +36,8 @@ use Rattle.markdown_safe.specs.SafeHtml.{start_tag, end_tag, bytes_of_piece, is_
 use Rattle.markdown_safe.specs.SafeHtml.{is_safe_class, tag_bytes, void_tag}
 use Rattle.markdown_safe.specs.SafeEvents.{is_name, safe_destination, safe_name, safe_target, safe_info}
 use Rattle.markdown_safe.specs.SafeEvents.{safe_link_destination, without_scheme}
-use Rattle.markdown_safe.specs.SafeEvents.{safe_tag, safe_event}
+use Rattle.markdown_safe.specs.SafeEvents.{safe_block_html, safe_event, safe_inline_html, safe_tag}
+use Rattle.markdown_safe.proofs.RawEventsLemmas.{block_html_cases, inline_html_cases}
 use Rattle.markdown_safe.proofs.SafeHtmlLemmas.{of_pieces, both, text_safe, attribute_safe, IsValue, value-append}
 use Rattle.markdown_safe.proofs.SafeHtmlLemmas.{value-empty, value-escaped, value-plain, digits_plain, decimal_digits}
 use Rattle.markdown_safe.proofs.SafeHtmlLemmas.{plain_safe, destination-escaped, destination-safe, Turn, opens, closes}
@@ -198,26 +200,32 @@ two tag name first second ends bytes read bytes' read' rest v w writes safe afte
   does = rw after.does refl;
 }
 
--- a tag without an end tag, with three attributes
-pub three : (name first second third ends bytes read bytes' read' bytes'' read'' : List ℕ) (v : IsValue bytes read)
+-- a tag with three attributes, and what follows it
+pub three : {ts : List Turn} (tag : List Attribute → HtmlPiece)
+    (name first second third ends bytes read bytes' read' bytes'' read'' rest : List ℕ) (v : IsValue bytes read)
     (w : IsValue bytes' read') (x : IsValue bytes'' read'')
-    → is_safe_piece (void_tag name (with_value first v ∷ with_value second w ∷ with_value third x ∷ []) ends) ≡ true
+    → ((given : List Attribute) → bytes_of_piece (tag given) ≡ tag_bytes name given ends)
+    → is_safe_piece (tag (with_value first v ∷ with_value second w ∷ with_value third x ∷ [])) ≡ true
+    → IsMarkup rest ts
     → IsMarkup (codes "<" ++ (name ++ (codes " " ++ (first ++ (codes "=\"" ++ (bytes ++ (codes "\"" ++ (codes " "
     ++ (second ++ (codes "=\"" ++ (bytes' ++ (codes "\"" ++ (codes " " ++ (third ++ (codes "=\"" ++ (bytes''
-    ++ (codes "\"" ++ (ends ++ [])))))))))))))))))) []
-three name first second third ends bytes read bytes' read' bytes'' read'' v w x safe = record {
-  pieces = void_tag name (with_value first v ∷ with_value second w ∷ with_value third x ∷ []) ends ∷ [];
+    ++ (codes "\"" ++ (ends ++ rest))))))))))))))))))
+    (turns_of (tag (with_value first v ∷ with_value second w ∷ with_value third x ∷ [])) ++ ts)
+three tag name first second third ends bytes read bytes' read' bytes'' read'' rest v w x writes safe after = record {
+  pieces = tag (with_value first v ∷ with_value second w ∷ with_value third x ∷ []) ∷ after.pieces;
   are =
       let a = flat_map character_bytes v.value in
       let b = flat_map character_bytes w.value in
       let c = flat_map character_bytes x.value in
-      rw (v.are, w.are, x.are) (ap (λ l. codes "<" ++ l) (sym (flat_three name (quoted first a) (quoted second b)
-      (quoted third c) ends []
-      ∙ ap (λ l. name ++ l) (attribute_then first a (quoted second b ++ (quoted third c ++ (ends ++ [])))
-      ∙ ap (λ l. quoted_then first a l) (attribute_then second b (quoted third c ++ (ends ++ []))
-      ∙ ap (λ l. quoted_then second b l) (attribute_then third c (ends ++ [])))))));
-  safe = rw safe refl;
-  does = refl;
+      let end = flat_map bytes_of_piece after.pieces in
+      rw (v.are, w.are, x.are, after.are) (ap (λ l. codes "<" ++ l) (sym (flat_three name (quoted first a)
+      (quoted second b) (quoted third c) ends end
+      ∙ ap (λ l. name ++ l) (attribute_then first a (quoted second b ++ (quoted third c ++ (ends ++ end)))
+      ∙ ap (λ l. quoted_then first a l) (attribute_then second b (quoted third c ++ (ends ++ end))
+      ∙ ap (λ l. quoted_then second b l) (attribute_then third c (ends ++ end))))))
+      ∙ ap (λ l. l ++ end) (sym (writes (with_value first v ∷ with_value second w ∷ with_value third x ∷ []))));
+  safe = rw (safe, after.safe) refl;
+  does = rw after.does refl;
 }
 
 -- a value that is a safe URL
@@ -251,19 +259,19 @@ url_value kind schemes destination = by_test (is_safe_url schemes destination) r
     by_test false e = url_written schemes (without_scheme kind destination) (bare_url kind schemes destination)
 
 -- so is the destination of a link
-target_value : (kind : LinkType) (destination : List ℕ)
-    → IsUrlValue link_schemes (destination_escaped (safe_target kind destination))
-target_value kind [] = url_written link_schemes [] refl
-target_value kind (b ∷ name) = by_test (b == number_sign && is_name name)
+target_value : (prefix : List ℕ) (kind : LinkType) (destination : List ℕ)
+    → IsUrlValue link_schemes (destination_escaped (safe_target prefix kind destination))
+target_value prefix kind [] = url_written link_schemes [] refl
+target_value prefix kind (b ∷ name) = by_test (b == number_sign && is_name name)
   where
     by_test : (t : Bool) → IsUrlValue link_schemes (destination_escaped
-        (if t then codes "#" ++ safe_name name else safe_destination kind link_schemes (b ∷ name)))
-    by_test true = url_written link_schemes (codes "#" ++ safe_name name) refl
+        (if t then codes "#" ++ safe_name prefix name else safe_destination kind link_schemes (b ∷ name)))
+    by_test true = url_written link_schemes (codes "#" ++ safe_name prefix name) refl
     by_test false = url_value kind link_schemes (b ∷ name)
 
-link_value : (kind : LinkType) (destination : List ℕ)
-    → IsUrlValue link_schemes (link_scheme kind ++ destination_escaped (safe_link_destination kind destination))
-link_value kinds.Email destination =
+link_value : (prefix : List ℕ) (kind : LinkType) (destination : List ℕ)
+    → IsUrlValue link_schemes (link_scheme kind ++ destination_escaped (safe_link_destination prefix kind destination))
+link_value prefix kinds.Email destination =
     let u = url_value kinds.Email link_schemes destination in record {
       read = codes "mailto:" ++ u.read;
       value = value-append (codes "mailto:")
@@ -271,60 +279,85 @@ link_value kinds.Email destination =
           (value-plain (codes "mailto:") refl) u.value;
       url = refl;
     }
-link_value kind destination = target_value kind destination
+link_value prefix kind destination = target_value prefix kind destination
 
--- a link's Start
-link_safe : (kind : LinkType) (destination title : List ℕ)
-    → IsMarkup (joined (link_parts kind (safe_link_destination kind destination) title)) (opens (codes "a") ∷ [])
-link_safe kind destination [] =
-    let u = link_value kind destination in
-    rw (← append_assoc (link_scheme kind) (destination_escaped (safe_link_destination kind destination)) (codes "\">"))
-    (one (codes "a") (codes "href") _ u.read [] u.value (rw (u.value.safe, u.value.means, u.url) refl)
-    (of_pieces [] refl))
-link_safe kind destination (b ∷ title) =
-    let u = link_value kind destination in
-    let t = value-escaped (b ∷ title) in
-    rw (← append_assoc (link_scheme kind) (destination_escaped (safe_link_destination kind destination))
-    (codes "\" title=\"" ++ (attribute_escaped (b ∷ title) ++ codes "\">")))
-    (two (start_tag (codes "a")) (codes "a") (codes "href") (codes "title") (codes ">") _ u.read _ (b ∷ title) []
-    u.value t
-    (λ given. refl) (rw (u.value.safe, u.value.means, u.url, t.safe) refl) (of_pieces [] refl))
+-- a link's Start; its last attribute is `rel` or none
+link_safe : (prefix : List ℕ) (rel : Bool) (kind : LinkType) (destination title : List ℕ)
+    → IsMarkup (joined (link_parts rel kind (safe_link_destination prefix kind destination) title))
+    (opens (codes "a") ∷ [])
+link_safe prefix rel kind destination title =
+    by_rel (rel && leaves_site kind (safe_link_destination prefix kind destination)) title
+  where
+    href : List ℕ
+    href = destination_escaped (safe_link_destination prefix kind destination)
+
+    u : IsUrlValue link_schemes (link_scheme kind ++ href)
+    u = link_value prefix kind destination
+
+    r : IsValue (codes "nofollow ugc noopener") (codes "nofollow ugc noopener")
+    r = value-plain (codes "nofollow ugc noopener") refl
+
+    by_rel : (has : Bool) (title : List ℕ)
+        → IsMarkup (joined ((codes "<a href=\"" ∷ link_scheme kind ∷ href ∷ codes "\"" ∷ [])
+        ++ (title_parts title ++ rel_attribute has ∷ codes ">" ∷ []))) (opens (codes "a") ∷ [])
+    by_rel false [] =
+        rw (← append_assoc (link_scheme kind) href (codes "\">"))
+        (one (codes "a") (codes "href") _ u.read [] u.value (rw (u.value.safe, u.value.means, u.url) refl)
+        (of_pieces [] refl))
+    by_rel true [] =
+        rw (← append_assoc (link_scheme kind) href (codes "\" rel=\"nofollow ugc noopener\">"))
+        (two (start_tag (codes "a")) (codes "a") (codes "href") (codes "rel") (codes ">") _ u.read _
+        (codes "nofollow ugc noopener") [] u.value r (λ given. refl)
+        (rw (u.value.safe, u.value.means, u.url, r.safe, r.means) refl) (of_pieces [] refl))
+    by_rel false (b ∷ title) =
+        let t = value-escaped (b ∷ title) in
+        rw (← append_assoc (link_scheme kind) href
+        (codes "\" title=\"" ++ (attribute_escaped (b ∷ title) ++ codes "\">")))
+        (two (start_tag (codes "a")) (codes "a") (codes "href") (codes "title") (codes ">") _ u.read _ (b ∷ title) []
+        u.value t (λ given. refl) (rw (u.value.safe, u.value.means, u.url, t.safe) refl) (of_pieces [] refl))
+    by_rel true (b ∷ title) =
+        let t = value-escaped (b ∷ title) in
+        rw (← append_assoc (link_scheme kind) href
+        (codes "\" title=\"" ++ (attribute_escaped (b ∷ title) ++ codes "\" rel=\"nofollow ugc noopener\">")))
+        (three (start_tag (codes "a")) (codes "a") (codes "href") (codes "title") (codes "rel") (codes ">") _ u.read _
+        (b ∷ title) _ (codes "nofollow ugc noopener") [] u.value t r (λ given. refl)
+        (rw (u.value.safe, u.value.means, u.url, t.safe, r.safe, r.means) refl) (of_pieces [] refl))
 
 -- a start tag with an id alone
-with_id : (name id : List ℕ)
-    → is_safe_piece (start_tag name (with_value (codes "id") (value-escaped (safe_name id)) ∷ [])) ≡ true
-    → IsMarkup (codes "<" ++ (name ++ ((codes " id=\"" ++ (attribute_escaped (safe_name id) ++ codes "\""))
+with_id : (prefix name id : List ℕ)
+    → is_safe_piece (start_tag name (with_value (codes "id") (value-escaped (safe_name prefix id)) ∷ [])) ≡ true
+    → IsMarkup (codes "<" ++ (name ++ ((codes " id=\"" ++ (attribute_escaped (safe_name prefix id) ++ codes "\""))
     ++ codes ">"))) (opens name ∷ [])
-with_id name id safe =
-    rw (append_assoc (attribute_escaped (safe_name id)) (codes "\"") (codes ">"))
-    (one name (codes "id") _ (safe_name id) [] (value-escaped (safe_name id)) safe (of_pieces [] refl))
+with_id prefix name id safe =
+    rw (append_assoc (attribute_escaped (safe_name prefix id)) (codes "\"") (codes ">"))
+    (one name (codes "id") _ (safe_name prefix id) [] (value-escaped (safe_name prefix id)) safe (of_pieces [] refl))
 
 -- a heading's Start
-heading_safe : (fresh : Bool) (l : HeadingLevel) (id : Option (List ℕ))
+heading_safe : (prefix : List ℕ) (fresh : Bool) (l : HeadingLevel) (id : Option (List ℕ))
     → IsMarkup (joined (heading_parts fresh (record {
       level = l;
-      id = option_map safe_name id;
+      id = option_map (safe_name prefix) id;
       classes = [];
       attributes = [];
     }))) (opens (level_name l) ∷ [])
-heading_safe fresh level.H1 None = line fresh (codes "<h1>") (of_pieces (bare (codes "h1") ∷ []) refl)
-heading_safe fresh level.H1 (Some id) = let v = value-escaped (safe_name id) in
-    line fresh _ (with_id (codes "h1") id (rw (v.safe, v.means) refl))
-heading_safe fresh level.H2 None = line fresh (codes "<h2>") (of_pieces (bare (codes "h2") ∷ []) refl)
-heading_safe fresh level.H2 (Some id) = let v = value-escaped (safe_name id) in
-    line fresh _ (with_id (codes "h2") id (rw (v.safe, v.means) refl))
-heading_safe fresh level.H3 None = line fresh (codes "<h3>") (of_pieces (bare (codes "h3") ∷ []) refl)
-heading_safe fresh level.H3 (Some id) = let v = value-escaped (safe_name id) in
-    line fresh _ (with_id (codes "h3") id (rw (v.safe, v.means) refl))
-heading_safe fresh level.H4 None = line fresh (codes "<h4>") (of_pieces (bare (codes "h4") ∷ []) refl)
-heading_safe fresh level.H4 (Some id) = let v = value-escaped (safe_name id) in
-    line fresh _ (with_id (codes "h4") id (rw (v.safe, v.means) refl))
-heading_safe fresh level.H5 None = line fresh (codes "<h5>") (of_pieces (bare (codes "h5") ∷ []) refl)
-heading_safe fresh level.H5 (Some id) = let v = value-escaped (safe_name id) in
-    line fresh _ (with_id (codes "h5") id (rw (v.safe, v.means) refl))
-heading_safe fresh level.H6 None = line fresh (codes "<h6>") (of_pieces (bare (codes "h6") ∷ []) refl)
-heading_safe fresh level.H6 (Some id) = let v = value-escaped (safe_name id) in
-    line fresh _ (with_id (codes "h6") id (rw (v.safe, v.means) refl))
+heading_safe prefix fresh level.H1 None = line fresh (codes "<h1>") (of_pieces (bare (codes "h1") ∷ []) refl)
+heading_safe prefix fresh level.H1 (Some id) = let v = value-escaped (safe_name prefix id) in
+    line fresh _ (with_id prefix (codes "h1") id (rw (v.safe, v.means) refl))
+heading_safe prefix fresh level.H2 None = line fresh (codes "<h2>") (of_pieces (bare (codes "h2") ∷ []) refl)
+heading_safe prefix fresh level.H2 (Some id) = let v = value-escaped (safe_name prefix id) in
+    line fresh _ (with_id prefix (codes "h2") id (rw (v.safe, v.means) refl))
+heading_safe prefix fresh level.H3 None = line fresh (codes "<h3>") (of_pieces (bare (codes "h3") ∷ []) refl)
+heading_safe prefix fresh level.H3 (Some id) = let v = value-escaped (safe_name prefix id) in
+    line fresh _ (with_id prefix (codes "h3") id (rw (v.safe, v.means) refl))
+heading_safe prefix fresh level.H4 None = line fresh (codes "<h4>") (of_pieces (bare (codes "h4") ∷ []) refl)
+heading_safe prefix fresh level.H4 (Some id) = let v = value-escaped (safe_name prefix id) in
+    line fresh _ (with_id prefix (codes "h4") id (rw (v.safe, v.means) refl))
+heading_safe prefix fresh level.H5 None = line fresh (codes "<h5>") (of_pieces (bare (codes "h5") ∷ []) refl)
+heading_safe prefix fresh level.H5 (Some id) = let v = value-escaped (safe_name prefix id) in
+    line fresh _ (with_id prefix (codes "h5") id (rw (v.safe, v.means) refl))
+heading_safe prefix fresh level.H6 None = line fresh (codes "<h6>") (of_pieces (bare (codes "h6") ∷ []) refl)
+heading_safe prefix fresh level.H6 (Some id) = let v = value-escaped (safe_name prefix id) in
+    line fresh _ (with_id prefix (codes "h6") id (rw (v.safe, v.means) refl))
 
 heading_end_safe : (l : HeadingLevel)
     → IsMarkup (joined (codes "</h" ∷ level_digit l ∷ codes ">\n" ∷ [])) (closes (level_name l) ∷ [])
@@ -353,25 +386,38 @@ quote_safe (Some quote.Important) = of_pieces (quote_piece (codes "markdown-aler
 quote_safe (Some quote.Warning) = of_pieces (quote_piece (codes "markdown-alert-warning") ∷ newline ∷ []) refl
 quote_safe (Some quote.Caution) = of_pieces (quote_piece (codes "markdown-alert-caution") ∷ newline ∷ []) refl
 
+-- the tag of a cell with an attribute
+cell_piece : (name attribute value : List ℕ) → HtmlPiece
+cell_piece name attribute value = start_tag name (own attribute value ∷ [])
+
 -- a cell's Start
-cell_safe : (head : Bool) (alignment : Option Alignment)
-    → IsMarkup ((if head then codes "<th" else codes "<td") ++ cell_style alignment) (opens (cell_name head) ∷ [])
-cell_safe true None = of_pieces (bare (codes "th") ∷ []) refl
-cell_safe true (Some align.None) = of_pieces (bare (codes "th") ∷ []) refl
-cell_safe true (Some align.Left) =
-    of_pieces (start_tag (codes "th") (own (codes "style") (codes "text-align: left") ∷ []) ∷ []) refl
-cell_safe true (Some align.Center) =
-    of_pieces (start_tag (codes "th") (own (codes "style") (codes "text-align: center") ∷ []) ∷ []) refl
-cell_safe true (Some align.Right) =
-    of_pieces (start_tag (codes "th") (own (codes "style") (codes "text-align: right") ∷ []) ∷ []) refl
-cell_safe false None = of_pieces (bare (codes "td") ∷ []) refl
-cell_safe false (Some align.None) = of_pieces (bare (codes "td") ∷ []) refl
-cell_safe false (Some align.Left) =
-    of_pieces (start_tag (codes "td") (own (codes "style") (codes "text-align: left") ∷ []) ∷ []) refl
-cell_safe false (Some align.Center) =
-    of_pieces (start_tag (codes "td") (own (codes "style") (codes "text-align: center") ∷ []) ∷ []) refl
-cell_safe false (Some align.Right) =
-    of_pieces (start_tag (codes "td") (own (codes "style") (codes "text-align: right") ∷ []) ∷ []) refl
+cell_safe : (head by_align : Bool) (alignment : Option Alignment)
+    → IsMarkup ((if head then codes "<th" else codes "<td") ++ cell_style by_align alignment)
+    (opens (cell_name head) ∷ [])
+unfolding cell_piece
+cell_safe true by_align None = of_pieces (bare (codes "th") ∷ []) refl
+cell_safe true by_align (Some align.None) = of_pieces (bare (codes "th") ∷ []) refl
+cell_safe true true (Some align.Left) = of_pieces (cell_piece (codes "th") (codes "align") (codes "left") ∷ []) refl
+cell_safe true false (Some align.Left) =
+    of_pieces (cell_piece (codes "th") (codes "style") (codes "text-align: left") ∷ []) refl
+cell_safe true true (Some align.Center) = of_pieces (cell_piece (codes "th") (codes "align") (codes "center") ∷ []) refl
+cell_safe true false (Some align.Center) =
+    of_pieces (cell_piece (codes "th") (codes "style") (codes "text-align: center") ∷ []) refl
+cell_safe true true (Some align.Right) = of_pieces (cell_piece (codes "th") (codes "align") (codes "right") ∷ []) refl
+cell_safe true false (Some align.Right) =
+    of_pieces (cell_piece (codes "th") (codes "style") (codes "text-align: right") ∷ []) refl
+cell_safe false by_align None = of_pieces (bare (codes "td") ∷ []) refl
+cell_safe false by_align (Some align.None) = of_pieces (bare (codes "td") ∷ []) refl
+cell_safe false true (Some align.Left) = of_pieces (cell_piece (codes "td") (codes "align") (codes "left") ∷ []) refl
+cell_safe false false (Some align.Left) =
+    of_pieces (cell_piece (codes "td") (codes "style") (codes "text-align: left") ∷ []) refl
+cell_safe false true (Some align.Center) =
+    of_pieces (cell_piece (codes "td") (codes "align") (codes "center") ∷ []) refl
+cell_safe false false (Some align.Center) =
+    of_pieces (cell_piece (codes "td") (codes "style") (codes "text-align: center") ∷ []) refl
+cell_safe false true (Some align.Right) = of_pieces (cell_piece (codes "td") (codes "align") (codes "right") ∷ []) refl
+cell_safe false false (Some align.Right) =
+    of_pieces (cell_piece (codes "td") (codes "style") (codes "text-align: right") ∷ []) refl
 
 cell_end_safe : (head : Bool) → IsMarkup (if head then codes "</th>" else codes "</td>") (closes (cell_name head) ∷ [])
 cell_end_safe true = of_pieces (end_tag (codes "th") ∷ []) refl
@@ -433,71 +479,73 @@ list_safe past first = by_test (first == 1)
         (rw (v.safe, v.means, decimal_digits first) refl) (of_pieces (newline ∷ []) refl))
 
 -- a footnote
-definition_safe : (fresh : Bool) (name : List ℕ) (n : ℕ)
+definition_safe : (prefix : List ℕ) (fresh : Bool) (name : List ℕ) (n : ℕ)
     → IsMarkup (new_line fresh ++ (codes "<div class=\"footnote-definition\" id=\""
-    ++ (attribute_escaped (safe_name name)
+    ++ (attribute_escaped (safe_name prefix name)
     ++ (codes "\"><sup class=\"footnote-definition-label\">" ++ (decimal n ++ codes "</sup>")))))
     (opens (codes "div") ∷ opens (codes "sup") ∷ closes (codes "sup") ∷ [])
-definition_safe fresh name n =
+definition_safe prefix fresh name n =
     let class = value-plain (codes "footnote-definition") refl in
-    let id = value-escaped (safe_name name) in
+    let id = value-escaped (safe_name prefix name) in
     let label = both (decimal n) (codes "</sup>") (number_safe n) (of_pieces (end_tag (codes "sup") ∷ []) refl) in
     let sup = both (codes "<sup class=\"footnote-definition-label\">") _
     (of_pieces (start_tag (codes "sup") (own (codes "class") (codes "footnote-definition-label") ∷ []) ∷ [])
     refl) label in
     line fresh _ (two (start_tag (codes "div")) (codes "div") (codes "class") (codes "id") (codes ">") _
-    (codes "footnote-definition") _ (safe_name name) _ class id (λ given. refl)
+    (codes "footnote-definition") _ (safe_name prefix name) _ class id (λ given. refl)
     (rw (class.safe, class.means, id.safe, id.means) refl) sup)
 
-reference_safe : (name : List ℕ) (n : ℕ)
-    → IsMarkup (codes "<sup class=\"footnote-reference\"><a href=\"#" ++ (attribute_escaped (safe_name name)
+reference_safe : (prefix name : List ℕ) (n : ℕ)
+    → IsMarkup (codes "<sup class=\"footnote-reference\"><a href=\"#" ++ (attribute_escaped (safe_name prefix name)
     ++ (codes "\">" ++ (decimal n ++ codes "</a></sup>"))))
     (opens (codes "sup") ∷ opens (codes "a") ∷ closes (codes "a") ∷ closes (codes "sup") ∷ [])
-reference_safe name n =
-    let v = value-append (codes "#") (attribute_escaped (safe_name name)) (codes "#") (safe_name name)
-    (value-plain (codes "#") refl) (value-escaped (safe_name name)) in
+reference_safe prefix name n =
+    let v = value-append (codes "#") (attribute_escaped (safe_name prefix name)) (codes "#") (safe_name prefix name)
+    (value-plain (codes "#") refl) (value-escaped (safe_name prefix name)) in
     both (codes "<sup class=\"footnote-reference\">") _
     (of_pieces (start_tag (codes "sup") (own (codes "class") (codes "footnote-reference") ∷ []) ∷ []) refl)
-    (one (codes "a") (codes "href") _ (codes "#" ++ safe_name name) _ v (rw (v.safe, v.means) refl)
+    (one (codes "a") (codes "href") _ (codes "#" ++ safe_name prefix name) _ v (rw (v.safe, v.means) refl)
     (both (decimal n) (codes "</a></sup>") (number_safe n)
     (of_pieces (end_tag (codes "a") ∷ end_tag (codes "sup") ∷ []) refl)))
 
 -- what a Start writes outside images, but for the Start of an image
-abbrev pub StartIsSafe : Past → TagView → Type 0
-StartIsSafe past (event.image i) = Unit {0}
-StartIsSafe past tag = IsMarkup (joined (start_parts past (safe_tag tag))) (start_turns past.in_head (safe_tag tag))
+abbrev pub StartIsSafe : (prefix : List ℕ) → Past → TagView → Type 0
+StartIsSafe prefix past (event.image i) = Unit {0}
+StartIsSafe prefix past tag =
+    IsMarkup (joined (start_parts past (safe_tag prefix tag))) (start_turns past.in_head (safe_tag prefix tag))
 
-pub start_safe : (past : Past) (tag : TagView) → StartIsSafe past tag
-start_safe past event.paragraph = line past.fresh (codes "<p>") (of_pieces (bare (codes "p") ∷ []) refl)
-start_safe past (event.heading h) = heading_safe past.fresh h.level h.id
-start_safe past (event.block_quote kind) = line past.fresh _ (quote_safe kind)
-start_safe past event.indented_code = code_block_safe past.fresh [] refl
-start_safe past (event.fenced_code info) =
+pub start_safe : (prefix : List ℕ) (past : Past) (tag : TagView) → StartIsSafe prefix past tag
+start_safe prefix past event.paragraph = line past.fresh (codes "<p>") (of_pieces (bare (codes "p") ∷ []) refl)
+start_safe prefix past (event.heading h) = heading_safe prefix past.fresh h.level h.id
+start_safe prefix past (event.block_quote kind) = line past.fresh _ (quote_safe kind)
+start_safe prefix past event.indented_code = code_block_safe past.fresh [] refl
+start_safe prefix past (event.fenced_code info) =
     code_block_safe past.fresh (language (safe_info info)) (info_is_one_class info)
-start_safe past event.html_block = of_pieces [] refl
-start_safe past (event.list None) =
+start_safe prefix past event.html_block = of_pieces [] refl
+start_safe prefix past (event.list None) =
     line past.fresh (codes "<ul>\n") (of_pieces (bare (codes "ul") ∷ newline ∷ []) refl)
-start_safe past (event.list (Some first)) = list_safe past first
-start_safe past event.list_item = line past.fresh (codes "<li>") (of_pieces (bare (codes "li") ∷ []) refl)
-start_safe past (event.footnote_definition name) =
-    definition_safe past.fresh name (place (safe_name name) past.names + 1)
-start_safe past event.definition_list =
+start_safe prefix past (event.list (Some first)) = list_safe past first
+start_safe prefix past event.list_item = line past.fresh (codes "<li>") (of_pieces (bare (codes "li") ∷ []) refl)
+start_safe prefix past (event.footnote_definition name) =
+    definition_safe prefix past.fresh name (place (safe_name prefix name) past.names + 1)
+start_safe prefix past event.definition_list =
     line past.fresh (codes "<dl>\n") (of_pieces (bare (codes "dl") ∷ newline ∷ []) refl)
-start_safe past event.definition_list_title = line past.fresh (codes "<dt>") (of_pieces (bare (codes "dt") ∷ []) refl)
-start_safe past event.definition_list_definition =
+start_safe prefix past event.definition_list_title =
+    line past.fresh (codes "<dt>") (of_pieces (bare (codes "dt") ∷ []) refl)
+start_safe prefix past event.definition_list_definition =
     line past.fresh (codes "<dd>") (of_pieces (bare (codes "dd") ∷ []) refl)
-start_safe past (event.table alignments) = of_pieces (bare (codes "table") ∷ []) refl
-start_safe past event.table_head = of_pieces (bare (codes "thead") ∷ bare (codes "tr") ∷ []) refl
-start_safe past event.table_row = of_pieces (bare (codes "tr") ∷ []) refl
-start_safe past event.table_cell = cell_safe past.in_head _
-start_safe past event.emphasis = of_pieces (bare (codes "em") ∷ []) refl
-start_safe past event.strong = of_pieces (bare (codes "strong") ∷ []) refl
-start_safe past event.strikethrough = of_pieces (bare (codes "del") ∷ []) refl
-start_safe past event.superscript = of_pieces (bare (codes "sup") ∷ []) refl
-start_safe past event.subscript = of_pieces (bare (codes "sub") ∷ []) refl
-start_safe past (event.link l) = link_safe l.kind l.destination l.title
-start_safe past (event.image i) = tt
-start_safe past (event.metadata_block kind) = of_pieces [] refl
+start_safe prefix past (event.table alignments) = of_pieces (bare (codes "table") ∷ []) refl
+start_safe prefix past event.table_head = of_pieces (bare (codes "thead") ∷ bare (codes "tr") ∷ []) refl
+start_safe prefix past event.table_row = of_pieces (bare (codes "tr") ∷ []) refl
+start_safe prefix past event.table_cell = cell_safe past.in_head past.rules.align _
+start_safe prefix past event.emphasis = of_pieces (bare (codes "em") ∷ []) refl
+start_safe prefix past event.strong = of_pieces (bare (codes "strong") ∷ []) refl
+start_safe prefix past event.strikethrough = of_pieces (bare (codes "del") ∷ []) refl
+start_safe prefix past event.superscript = of_pieces (bare (codes "sup") ∷ []) refl
+start_safe prefix past event.subscript = of_pieces (bare (codes "sub") ∷ []) refl
+start_safe prefix past (event.link l) = link_safe prefix past.rules.rel l.kind l.destination l.title
+start_safe prefix past (event.image i) = tt
+start_safe prefix past (event.metadata_block kind) = of_pieces [] refl
 
 -- what an End writes outside images
 end_safe : (past : Past) (tag : TagEnd) → IsMarkup (joined (end_parts past tag)) (end_turns past.in_head tag)
@@ -532,42 +580,62 @@ shown_safe : (hidden : Bool) (t : List ℕ) → IsMarkup (joined (if hidden then
 shown_safe true t = of_pieces [] refl
 shown_safe false t = text_safe t
 
+-- what is written outside images and is no tag that needs an end tag
+abbrev IsOutside : Past → EventView → Type 0
+IsOutside past e = IsMarkup (joined (outside_parts past e)) (event_turns past.in_head e)
+
+rule_safe : (past : Past) → IsOutside past rule
+rule_safe past =
+    line past.fresh (codes "<hr />\n") (of_pieces (void_tag (codes "hr") [] (codes " />") ∷ newline ∷ []) refl)
+
+break_safe : (past : Past) → IsOutside past hard_break
+break_safe past = of_pieces (void_tag (codes "br") [] (codes " />") ∷ newline ∷ []) refl
+
+-- HTML of HTML blocks, and inline HTML: text, or one of a few tags
+html_safe : (past : Past) (t : List ℕ) → IsOutside past (safe_block_html t)
+html_safe past t = block_html_cases (IsOutside past) t (of_pieces [] refl) (rule_safe past) (break_safe past)
+    (λ t. shown_safe past.in_metadata t)
+
+inline_html_safe : (past : Past) (t : List ℕ) → IsOutside past (safe_inline_html t)
+inline_html_safe past t = inline_html_cases (IsOutside past) t (of_pieces [] refl) (break_safe past)
+    (of_pieces (void_tag (codes "wbr") [] (codes " />") ∷ []) refl) (λ t. shown_safe past.in_metadata t)
+
 -- mathematics
 math_piece : (class : List ℕ) → HtmlPiece
 math_piece class = start_tag (codes "span") (own (codes "class") class ∷ [])
 
 -- what an event writes outside images, but for Starts and Ends
-abbrev pub OtherIsSafe : Past → EventView → Type 0
-OtherIsSafe past (start tag) = Unit {0}
-OtherIsSafe past e =
-    IsMarkup (joined (outside_parts past (safe_event e))) (event_turns past.in_head (safe_event e))
+abbrev pub OtherIsSafe : (prefix : List ℕ) → Past → EventView → Type 0
+OtherIsSafe prefix past (start tag) = Unit {0}
+OtherIsSafe prefix past e =
+    IsMarkup (joined (outside_parts past (safe_event prefix e))) (event_turns past.in_head (safe_event prefix e))
 
-pub other_safe : (past : Past) (e : EventView) → OtherIsSafe past e
+pub other_safe : (prefix : List ℕ) (past : Past) (e : EventView) → OtherIsSafe prefix past e
 unfolding math_piece
-other_safe past (start tag) = tt
-other_safe past (end tag) = end_safe past tag
-other_safe past (text t) = shown_safe past.in_metadata t
-other_safe past (code t) =
+other_safe prefix past (start tag) = tt
+other_safe prefix past (end tag) = end_safe past tag
+other_safe prefix past (text t) = shown_safe past.in_metadata t
+other_safe prefix past (code t) =
     around (codes "<code>") (text_escaped t) (codes "</code>") (of_pieces (bare (codes "code") ∷ []) refl) (text_safe t)
     (of_pieces (end_tag (codes "code") ∷ []) refl)
-other_safe past (inline_math t) =
+other_safe prefix past (inline_math t) =
     around (codes "<span class=\"math math-inline\">") (attribute_escaped t) (codes "</span>")
     (of_pieces (math_piece (codes "math math-inline") ∷ []) refl) (attribute_safe t)
     (of_pieces (end_tag (codes "span") ∷ []) refl)
-other_safe past (display_math t) =
+other_safe prefix past (display_math t) =
     around (codes "<span class=\"math math-display\">") (attribute_escaped t) (codes "</span>")
     (of_pieces (math_piece (codes "math math-display") ∷ []) refl) (attribute_safe t)
     (of_pieces (end_tag (codes "span") ∷ []) refl)
-other_safe past (html t) = shown_safe past.in_metadata t
-other_safe past (inline_html t) = shown_safe past.in_metadata t
-other_safe past (footnote_reference name) = reference_safe name (place (safe_name name) past.names + 1)
-other_safe past soft_break = of_pieces (newline ∷ []) refl
-other_safe past hard_break = of_pieces (void_tag (codes "br") [] (codes " />") ∷ newline ∷ []) refl
-other_safe past rule =
-    line past.fresh (codes "<hr />\n") (of_pieces (void_tag (codes "hr") [] (codes " />") ∷ newline ∷ []) refl)
-other_safe past (task_list_marker true) =
+other_safe prefix past (html t) = html_safe past t
+other_safe prefix past (inline_html t) = inline_html_safe past t
+other_safe prefix past (footnote_reference name) =
+    reference_safe prefix name (place (safe_name prefix name) past.names + 1)
+other_safe prefix past soft_break = of_pieces (newline ∷ []) refl
+other_safe prefix past hard_break = break_safe past
+other_safe prefix past rule = rule_safe past
+other_safe prefix past (task_list_marker true) =
     of_pieces (void_tag (codes "input") (own (codes "disabled") [] ∷ own (codes "type") (codes "checkbox") ∷ own
     (codes "checked") [] ∷ []) (codes "/>") ∷ newline ∷ []) refl
-other_safe past (task_list_marker false) =
+other_safe prefix past (task_list_marker false) =
     of_pieces (void_tag (codes "input") (own (codes "disabled") [] ∷ own (codes "type") (codes "checkbox") ∷ [])
     (codes "/>") ∷ newline ∷ []) refl

@@ -16,21 +16,21 @@ name-some [] starts some is = cc some
 name-some (b ∷ name) starts some is = ap not is
 
 -- a destination of `#` and what is a name
-pub target-named : (kind : LinkType) (destination name : List ℕ) → destination ≡ number_sign ∷ name
-    → is_name name ≡ true → codes "#" ++ safe_name name ≡ safe_target kind destination
-target-named kind destination name are is = rw (are, is) refl
+pub target-named : (prefix : List ℕ) (kind : LinkType) (destination name : List ℕ) → destination ≡ number_sign ∷ name
+    → is_name name ≡ true → codes "#" ++ safe_name prefix name ≡ safe_target prefix kind destination
+target-named prefix kind destination name are is = rw (are, is) refl
 
 -- of `#` and what is none
-pub target-unnamed : (kind : LinkType) (destination name : List ℕ) → destination ≡ number_sign ∷ name
-    → is_name name ≡ false → safe_destination kind link_schemes destination ≡ safe_target kind destination
-target-unnamed kind destination name are is = rw (are, is) refl
+pub target-unnamed : (prefix : List ℕ) (kind : LinkType) (destination name : List ℕ) → destination ≡ number_sign ∷ name
+    → is_name name ≡ false → safe_destination kind link_schemes destination ≡ safe_target prefix kind destination
+target-unnamed prefix kind destination name are is = rw (are, is) refl
 
 -- and one that does not begin with `#`
-pub target-other : (kind : LinkType) (destination : List ℕ)
+pub target-other : (prefix : List ℕ) (kind : LinkType) (destination : List ℕ)
     → ((name : List ℕ) → destination ≡ number_sign ∷ name → ⊥)
-    → safe_destination kind link_schemes destination ≡ safe_target kind destination
-target-other kind [] other = refl
-target-other kind (b ∷ name) other = elim (cases_eq b number_sign) [
+    → safe_destination kind link_schemes destination ≡ safe_target prefix kind destination
+target-other prefix kind [] other = refl
+target-other prefix kind (b ∷ name) other = elim (cases_eq b number_sign) [
   | inl e ↦ absurd (other name (ap (λ x. x ∷ name) e))
   | inr n ↦ rw (ne_eqb b number_sign n) refl
 ]

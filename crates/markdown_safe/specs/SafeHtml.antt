@@ -61,9 +61,13 @@ is_safe_class value =
     ) value
     || (starts_with nat_eq value (codes "language-") && list_all (λ b. not (is_ascii_whitespace b)) value)
 
--- the alignment of a column
+-- the alignment of a column, as the attribute `align` has it
 abbrev pub is_alignment : List ℕ → Bool
-is_alignment value =
+is_alignment value = is_listed (codes "left" ∷ codes "center" ∷ codes "right" ∷ []) value
+
+-- and as `style` has it, where the HTML is written by upstream's rules
+abbrev pub is_alignment_style : List ℕ → Bool
+is_alignment_style value =
     is_listed (codes "text-align: left" ∷ codes "text-align: center" ∷ codes "text-align: right" ∷ []) value
 
 -- each attribute, with what its value must be
@@ -72,7 +76,8 @@ value_rules =
     (codes "href", is_safe_url link_schemes) ∷ (codes "src", is_safe_url image_schemes)
     ∷ (codes "alt", λ value. true) ∷ (codes "title", λ value. true) ∷ (codes "class", is_safe_class)
     ∷ (codes "id", λ value. starts_with nat_eq value (codes "user-content-"))
-    ∷ (codes "start", list_all is_ascii_digit) ∷ (codes "style", is_alignment)
+    ∷ (codes "start", list_all is_ascii_digit) ∷ (codes "style", is_alignment_style)
+    ∷ (codes "align", is_alignment) ∷ (codes "rel", is_listed (codes "nofollow ugc noopener" ∷ []))
     ∷ (codes "type", is_listed (codes "checkbox" ∷ [])) ∷ (codes "disabled", is_listed ([] ∷ []))
     ∷ (codes "checked", is_listed ([] ∷ [])) ∷ []
 
@@ -89,16 +94,17 @@ element_rules =
     ∷ (codes "blockquote", codes "class" ∷ []) ∷ (codes "pre", []) ∷ (codes "code", codes "class" ∷ [])
     ∷ (codes "ul", []) ∷ (codes "ol", codes "start" ∷ []) ∷ (codes "li", [])
     ∷ (codes "dl", []) ∷ (codes "dt", []) ∷ (codes "dd", []) ∷ (codes "table", []) ∷ (codes "thead", [])
-    ∷ (codes "tbody", []) ∷ (codes "tr", []) ∷ (codes "th", codes "style" ∷ []) ∷ (codes "td", codes "style" ∷ [])
+    ∷ (codes "tbody", []) ∷ (codes "tr", [])
+    ∷ (codes "th", codes "style" ∷ codes "align" ∷ []) ∷ (codes "td", codes "style" ∷ codes "align" ∷ [])
     ∷ (codes "em", []) ∷ (codes "strong", []) ∷ (codes "del", []) ∷ (codes "sup", codes "class" ∷ [])
-    ∷ (codes "sub", []) ∷ (codes "a", codes "href" ∷ codes "title" ∷ [])
+    ∷ (codes "sub", []) ∷ (codes "a", codes "href" ∷ codes "title" ∷ codes "rel" ∷ [])
     ∷ (codes "div", codes "class" ∷ codes "id" ∷ []) ∷ (codes "span", codes "class" ∷ []) ∷ []
 
 -- each tag of an element that has no end tag and holds nothing: its name, the attributes that it may have, and those
 -- that it must have
 abbrev pub void_rules : List (List ℕ × List (List ℕ) × List (List ℕ))
 void_rules =
-    (codes "br", [], []) ∷ (codes "hr", [], [])
+    (codes "br", [], []) ∷ (codes "hr", [], []) ∷ (codes "wbr", [], [])
     ∷ (codes "img", codes "src" ∷ codes "alt" ∷ codes "title" ∷ [], codes "src" ∷ codes "alt" ∷ [])
     ∷ (
       codes "input",
