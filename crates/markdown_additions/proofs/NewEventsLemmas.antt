@@ -1,6 +1,6 @@
 -- What is written of an iterator that gives the events of a text with what is added, through the adapters that are
 -- over it.
-use Rattle.std.proofs.Common.{◌≡◌, ◌⊎◌, ℕ, true, List, [], Option, Result, ap, sym, subst, ◌∙◌}
+use Rattle.std.proofs.Common.{◌≡◌, ◌⊎◌, ℕ, List, [], Option, Some, Result, sym, subst}
 use Rattle.std.specs.declared.ops.Range.{Range}
 use Rattle.markdown_additions.specs.Additions.{AdditionsView, AreFirstAdded, added_events}
 use Rattle.markdown_additions.specs.GivenEvents.{GivesEvents}
@@ -12,15 +12,18 @@ use Rattle.markdown_base.specs.Source.{Source}
 use Rattle.markdown_base.specs.declared.event.Event.{Event}
 use Rattle.markdown_base.specs.declared.fault.Fault.{Fault}
 use Rattle.markdown_base.specs.declared.fault.Fault.TheVariants.{Memory}
-use Rattle.markdown_out.specs.HtmlCorrect.{IsOwnFault, IsRendered, StopsAtError}
+use Rattle.markdown_out.specs.HtmlCorrect.{IsOwnFault, IsOwnFaultBy, IsRendered, IsRenderedBy}
+use Rattle.markdown_out.specs.HtmlCorrect.{StopsAtError, StopsAtErrorBy}
+use Rattle.markdown_out.specs.declared.html.rules.HtmlRules.{HtmlRules}
 use Rattle.markdown_outline.specs.Outline.{EntryView}
 use Rattle.markdown_outline.specs.OutlineRead.{IsOutlineOfAll, MeetsError}
-use Rattle.markdown_safe.specs.SafeItems.{GivesSafePlaced}
-use Rattle.markdown_safe.specs.SafeSource.{placed_source, safe_source}
+use Rattle.markdown_safe.specs.SafeRules.{SafeRulesView, html_rules, rules_view}
+use Rattle.markdown_safe.specs.SafeSource.{new_reading, placed_reading, safe_reading, safe_steps}
 use Rattle.markdown_safe.specs.declared.adapter.Safe.{Safe}
 use Rattle.markdown_safe.specs.declared.adapter.SafeWithOffset.{SafeWithOffset}
-use Rattle.markdown_additions.proofs.WrittenLemmas.{SafeBare, html_faults, html_written, safe_faults, safe_written}
-use Rattle.markdown_additions.proofs.WrittenLemmas.{headings_read_safe, headings_stopped_safe}
+use Rattle.markdown_safe.specs.declared.rules.SafeRules.{SafeRules}
+use Rattle.markdown_additions.proofs.WrittenLemmas.{html_faults, html_written, safe_faults, safe_written}
+use Rattle.markdown_additions.proofs.WrittenLemmas.{Safer, headings_read_safe, headings_stopped_safe}
 
 abbrev Item : Type 0
 Item = Result (Event × Range ℕ) Fault
@@ -47,39 +50,35 @@ module _ {S : Type 0} (steps : S → Option Item → S → Type 0) (view : Addit
         html_faults steps placed_iter (added_events view s) (AreFirstAdded view s) u old new fault
         (here (placed_iter u) bare) why
 
-    -- and then made safe
-    module _ (n : Safe (Unplaced S)) (safe : safe_source n ≡ u) where
-      source_is : placed_iter (safe_source n) ≡ events
-      source_is = ap (λ (x : Unplaced S). placed_iter x) safe ∙ bare
+    -- and then made safe, and written by the form that the rules have
+    module _ (rules : SafeRules) (n : Safe (Unplaced S)) (safe : safe_reading n ≡ new_reading u (rules_view rules))
+        (form : HtmlRules) (by : form ≡ html_rules (rules_view rules)) where
+      abbrev SafeBare : Safe (Unplaced S) → Option (Result Event Fault) → Safe (Unplaced S) → Type 0
+      SafeBare = safe_steps (unplaced_steps steps placed_iter)
 
-      pub safe_html_of_new : (old new : List ℕ) → old ≡ []
-          → IsRendered (SafeBare steps placed_iter safe_source (added_events view s) (AreFirstAdded view s)) n old new
-          → new ≡ written_of_text SafeHtml view s
+      pub safe_html_of_new : (old new : List ℕ) → old ≡ [] → IsRenderedBy form SafeBare n old new
+          → new ≡ written_of_text (SafeHtml rules) view s
       safe_html_of_new old new empty r =
-          safe_written steps placed_iter safe_source (added_events view s) (AreFirstAdded view s) n old new empty
-          (here (placed_iter (safe_source n)) source_is) r
+          safe_written steps placed_iter (added_events view s) (AreFirstAdded view s) rules u n safe
+          (here (placed_iter u) bare) old new empty
+          (subst (λ (h : HtmlRules). IsRenderedBy h SafeBare n old new) by r)
 
       pub safe_faults_of_new : (old new : List ℕ) (fault : Fault)
-          → StopsAtError (SafeBare steps placed_iter safe_source (added_events view s) (AreFirstAdded view s)) n old new
-          fault
-          ⊎ IsOwnFault (SafeBare steps placed_iter safe_source (added_events view s) (AreFirstAdded view s)) n old new
-          fault
-          → IsFaultOfWritingText SafeHtml view s fault
+          → StopsAtErrorBy form SafeBare n old new fault ⊎ IsOwnFaultBy form SafeBare n old new fault
+          → IsFaultOfWritingText (SafeHtml rules) view s fault
       safe_faults_of_new old new fault why =
-          safe_faults steps placed_iter safe_source (added_events view s) (AreFirstAdded view s) n old new fault
-          (here (placed_iter (safe_source n)) source_is) why
+          safe_faults steps placed_iter (added_events view s) (AreFirstAdded view s) rules u n safe
+          (here (placed_iter u) bare) old new fault
+          (subst (λ (h : HtmlRules).
+          StopsAtErrorBy h SafeBare n old new fault ⊎ IsOwnFaultBy h SafeBare n old new fault) by why)
 
   -- made safe with their ranges
-  module _ (m : SafeWithOffset S) (safe : placed_source m ≡ events) where
-    pub headings_of_new : (entries : List EntryView)
-        → IsOutlineOfAll (λ m r t. GivesSafePlaced steps (placed_source m) r (placed_source t)) m entries
-        → entries ≡ headings_of_text true view s
+  module _ (rules : SafeRulesView) (m : SafeWithOffset S) (safe : placed_reading m ≡ new_reading events rules) where
+    pub headings_of_new : (entries : List EntryView) → IsOutlineOfAll (Safer steps) m entries
+        → entries ≡ headings_of_text (Some rules) view s
     headings_of_new entries o =
-        headings_read_safe steps placed_source m (added_events view s) (AreFirstAdded view s) entries
-        (here (placed_source m) safe) o
+        headings_read_safe steps events (added_events view s) (AreFirstAdded view s) rules m safe gives entries o
 
-    pub headings_stopped_of_new : (fault : Fault)
-        → MeetsError (λ m r t. GivesSafePlaced steps (placed_source m) r (placed_source t)) m fault → fault ≡ Memory
+    pub headings_stopped_of_new : (fault : Fault) → MeetsError (Safer steps) m fault → fault ≡ Memory
     headings_stopped_of_new fault e =
-        headings_stopped_safe steps placed_source m (added_events view s) (AreFirstAdded view s) fault
-        (here (placed_source m) safe) e
+        headings_stopped_safe steps events (added_events view s) (AreFirstAdded view s) rules m safe gives fault e

@@ -8,7 +8,7 @@ use Rattle.std.specs.declared.ops.Range.{Range}
 use Rattle.markdown_additions.specs.GivenEvents.{GivesEvents}
 use Rattle.markdown_additions.specs.UnplacedItems.{IsUnplaced, unplaced_steps}
 use Rattle.markdown_additions.specs.Written.{BeginsTooDeep, IsFaultOfWriting, bare_events, ranged_line}
-use Rattle.markdown_additions.specs.Written.{safe_ranged, written_of}
+use Rattle.markdown_additions.specs.Written.{safe_ranged, safe_ranged_from, written_of}
 use Rattle.markdown_additions.specs.declared.written.Form.TheVariants.{Html, SafeHtml, Lines}
 use Rattle.markdown_base.specs.Event.{EventView, event_view}
 use Rattle.markdown_base.specs.declared.event.Event.{Event}
@@ -18,14 +18,20 @@ use Rattle.markdown_json.specs.JsonLines as json
 use Rattle.markdown_links.specs.LinkEntries.{LinkEntryView, link_entries_of}
 use Rattle.markdown_links.specs.LinksRead.{AreLinksOfAll}
 use Rattle.markdown_lint_json.specs.PlacedEvents.{IsWrittenWithPlaces, StopsWithPlaces, placed_event_lines}
-use Rattle.markdown_out.specs.EventHtml.{html_of}
-use Rattle.markdown_out.specs.HtmlCorrect.{GoesTooDeep, IsOwnFault, IsRendered, StopsAtError, items}
+use Rattle.markdown_out.specs.EventHtml.{html_by, html_of}
+use Rattle.markdown_out.specs.HtmlCorrect.{GoesTooDeep, GoesTooDeepBy, IsOwnFault, IsOwnFaultBy, IsRendered}
+use Rattle.markdown_out.specs.HtmlCorrect.{IsRenderedBy, StopsAtError, StopsAtErrorBy, items}
 use Rattle.markdown_out.specs.LookBacks.{IsTooDeep}
 use Rattle.markdown_outline.specs.Outline.{EntryView, Ranged, entries_of}
 use Rattle.markdown_outline.specs.OutlineRead.{IsOutlineOfAll, MeetsError, event_items, ranged_view}
-use Rattle.markdown_safe.specs.SafeEvents.{safe_events}
-use Rattle.markdown_safe.specs.SafeItems.{GivesSafe, GivesSafePlaced, IsSafeItem, IsSafePlaced}
-use Rattle.markdown_safe.proofs.SafeItemsLemmas.{all_safe, first_safe}
+use Rattle.markdown_safe.specs.SafeEvents.{past_after, safe_events, safe_next}
+use Rattle.markdown_safe.specs.SafeItems.{GivesSafePlaced, IsSafeItem, IsSafePlaced, SafeReading}
+use Rattle.markdown_safe.specs.SafeRules.{SafeRulesView, html_rules, rules_view}
+use Rattle.markdown_safe.specs.SafeSource.{new_reading, placed_reading, safe_reading, safe_steps}
+use Rattle.markdown_safe.specs.declared.adapter.Safe.{Safe}
+use Rattle.markdown_safe.specs.declared.adapter.SafeWithOffset.{SafeWithOffset}
+use Rattle.markdown_safe.specs.declared.rules.SafeRules.{SafeRules}
+use Rattle.markdown_safe.proofs.SafeItemsLemmas.{AreAllSafe, AreFirstSafe, all_safe, first_safe}
 
 abbrev Placed : Type 0
 Placed = Event × Range ℕ
@@ -140,85 +146,88 @@ module _ {S M : Type 0} (steps : S → Option Item → S → Type 0) (iter : M �
 -- ---- safe HTML
 
 -- an error of what is made safe is one of memory, or of the iterator
-module _ {S M : Type 0} (reads : S → Option (Result Event Fault) → S → Type 0) (source : M → S) where
-  abbrev Safely : M → Option (Result Event Fault) → M → Type 0
-  Safely s r t = GivesSafe reads (source s) r (source t)
-
+module _ {S : Type 0} (reads : S → Option (Result Event Fault) → S → Type 0) where
   record IsOfSource (s : S) (fault : Fault) : Type 0 where
     events : List Event
     left : S
     read : Yields reads s (items events ++ Err fault ∷ []) left
 
-  error_safe : (m t : M) (given : List Event) (fault : Fault) → Yields Safely m (items given ++ Err fault ∷ []) t
-      → (fault ≡ Memory) ⊎ IsOfSource (source m) fault
-  error_safe m t [] fault (j, h, y) = by_item h.0 h.1 h.2
-    where
-      by_item : (x : Result Event Fault) → reads (source m) (Some x) (source j) → IsSafeItem x (Err fault)
-          → (fault ≡ Memory) ⊎ IsOfSource (source m) fault
-      by_item (Ok e) step made = inl made
-      by_item (Err other) step made =
-          let same : fault ≡ other = cc made in
-          inr (record { events = []; left = source j; read = (source j, rw same step, refl) })
-  error_safe m t (e ∷ given) fault (j, h, y) = by_item h.0 h.1 h.2 (error_safe j t given fault y)
-    where
-      more : (event : Event) → reads (source m) (Some (Ok event)) (source j) → IsOfSource (source j) fault
-          → IsOfSource (source m) fault
-      more event step rest = record {
-        events = event ∷ rest.events;
-        left = rest.left;
-        read = (source j, step, rest.read);
-      }
+  error_first : (a b : SafeReading S) (item : Result Event Fault) (fault : Fault) → reads a.source (Some item) b.source
+      → IsSafeItem a.rules a.past item (Err fault) b.past → (fault ≡ Memory) ⊎ IsOfSource a.source fault
+  error_first a b (Ok e) fault step made = inl made
+  error_first a b (Err other) fault step made =
+      let same : fault ≡ other = cc made in
+      inr (record { events = []; left = b.source; read = (b.source, rw same step, refl) })
 
-      by_item : (x : Result Event Fault) → reads (source m) (Some x) (source j) → IsSafeItem x (Ok e)
-          → (fault ≡ Memory) ⊎ IsOfSource (source j) fault → (fault ≡ Memory) ⊎ IsOfSource (source m) fault
-      by_item (Ok event) step made rest = ⊎_elim (λ is. inl is) (λ r. inr (more event step r)) rest
-      by_item (Err other) step made rest = cc made
+  error_later : (a b : SafeReading S) (item : Result Event Fault) (e : Event) (fault : Fault)
+      → reads a.source (Some item) b.source → IsSafeItem a.rules a.past item (Ok e) b.past
+      → (fault ≡ Memory) ⊎ IsOfSource b.source fault → (fault ≡ Memory) ⊎ IsOfSource a.source fault
+  error_later a b item e fault step made (inl is) = inl is
+  error_later a b (Ok read) e fault step made (inr r) =
+      inr (record { events = read ∷ r.events; left = r.left; read = (b.source, step, r.read) })
+  error_later a b (Err other) e fault step made (inr r) = cc made
 
-module _ {S M N : Type 0} (steps : S → Option Item → S → Type 0) (iter : M → S) (source : N → M) (events : List Ranged)
-    (begins : List Ranged → Type 0) where
-  abbrev pub SafeBare : N → Option (Result Event Fault) → N → Type 0
-  SafeBare s r t = GivesSafe (unplaced_steps steps iter) (source s) r (source t)
+  error_safe : (n t : Safe S) (given : List Event) (fault : Fault)
+      → Yields (safe_steps reads) n (items given ++ Err fault ∷ []) t
+      → (fault ≡ Memory) ⊎ IsOfSource (safe_reading n).source fault
+  error_safe n t [] fault (j, h, y) = error_first (safe_reading n) (safe_reading j) h.1.0 fault h.1.1 h.1.2
+  error_safe n t (e ∷ given) fault (j, h, y) =
+      error_later (safe_reading n) (safe_reading j) h.1.0 e fault h.1.1 h.1.2 (error_safe j t given fault y)
 
-  pub safe_written : (n : N) (old new : List ℕ) → old ≡ [] → GivesEvents steps (iter (source n)) events begins
-      → IsRendered SafeBare n old new → new ≡ written_of SafeHtml events
-  safe_written n old new empty gives r =
-      let a = all_safe (unplaced_steps steps iter) source n r.events r.read in
-      let b = all_bare steps iter (source n) a.0 a.1 in
-      r.stands ∙ ap (λ bytes. bytes ++ html_of (map event_view r.events)) empty
-      ∙ ap html_of (a.2 ∙ ap safe_events (b.are ∙ ap bare_events (gives.whole b.read b.drains)))
+-- an iterator that makes such events safe, of which nothing was read yet
+module _ {S M : Type 0} (steps : S → Option Item → S → Type 0) (iter : M → S) (events : List Ranged)
+    (begins : List Ranged → Type 0) (rules : SafeRules) (m : M) (n : Safe M)
+    (new_one : safe_reading n ≡ new_reading m (rules_view rules))
+    (gives : GivesEvents steps (iter m) events begins) where
+  abbrev Bares : M → Option (Result Event Fault) → M → Type 0
+  Bares = unplaced_steps steps iter
 
-  safe_deep : (n : N) (old new : List ℕ) → GivesEvents steps (iter (source n)) events begins
-      → GoesTooDeep SafeBare n old new → BeginsTooDeep SafeHtml begins
-  safe_deep n old new gives d =
-      let a = first_safe (unplaced_steps steps iter) source n d.left d.events d.read in
-      let f = first_bare steps iter (source n) (source d.left) a.0 a.1 in
-      let are : map event_view d.events ≡ safe_events (bare_events (map ranged_view f.read)) =
-      a.2 ∙ ap safe_events f.are in
+  pub safe_written : (old new : List ℕ) → old ≡ []
+      → IsRenderedBy (html_rules (rules_view rules)) (safe_steps Bares) n old new
+      → new ≡ written_of (SafeHtml rules) events
+  safe_written old new empty r =
+      let a = subst (λ (x : SafeReading M). AreAllSafe Bares safe_reading x r.events) new_one
+      (all_safe Bares safe_reading n r.events r.read) in
+      let b = all_bare steps iter m a.0 a.1 in
+      r.stands ∙ ap (λ bytes. bytes ++ html_by (html_rules (rules_view rules)) (map event_view r.events)) empty
+      ∙ ap (html_by (html_rules (rules_view rules)))
+      (a.2 ∙ ap (safe_events (rules_view rules)) (b.are ∙ ap bare_events (gives.whole b.read b.drains)))
+
+  safe_deep : (old new : List ℕ) → GoesTooDeepBy (html_rules (rules_view rules)) (safe_steps Bares) n old new
+      → BeginsTooDeep (SafeHtml rules) begins
+  safe_deep old new d =
+      let left = (safe_reading d.left).source in
+      let a = subst (λ (x : SafeReading M). AreFirstSafe Bares safe_reading x left d.events) new_one
+      (first_safe Bares safe_reading n d.left d.events d.read) in
+      let f = first_bare steps iter m left a.0 a.1 in
+      let are : map event_view d.events ≡ safe_events (rules_view rules) (bare_events (map ranged_view f.read)) =
+      a.2 ∙ ap (safe_events (rules_view rules)) f.are in
       record {
         events = map ranged_view f.read;
-        begin = gives.first f.read (iter (source d.left)) f.steps_to;
+        begin = gives.first f.read (iter left) f.steps_to;
         deep = subst IsTooDeep are d.deep;
       }
 
-  own_safe : (n : N) (old new : List ℕ) (fault : Fault) → GivesEvents steps (iter (source n)) events begins
-      → IsOwnFault SafeBare n old new fault → IsFaultOfWriting SafeHtml begins fault
-  own_safe n old new Memory gives own = inl refl
-  own_safe n old new Depth gives own = inr (refl, safe_deep n old new gives own)
-  own_safe n old new Blocks gives own = absurd own
+  own_safe : (old new : List ℕ) (fault : Fault)
+      → IsOwnFaultBy (html_rules (rules_view rules)) (safe_steps Bares) n old new fault
+      → IsFaultOfWriting (SafeHtml rules) begins fault
+  own_safe old new Memory own = inl refl
+  own_safe old new Depth own = inr (refl, safe_deep old new own)
+  own_safe old new Blocks own = absurd own
 
-  of_source : (n : N) (fault : Fault) → GivesEvents steps (iter (source n)) events begins
-      → IsOfSource (unplaced_steps steps iter) source (source n) fault → fault ≡ Memory
-  of_source n fault gives e =
-      let b = error_bare steps iter (source n) e.left e.events fault e.read in
-      gives.memory b.read b.left fault b.steps_to
+  of_source : (fault : Fault) → IsOfSource Bares m fault → fault ≡ Memory
+  of_source fault e =
+      let b = error_bare steps iter m e.left e.events fault e.read in gives.memory b.read b.left fault b.steps_to
 
-  pub safe_faults : (n : N) (old new : List ℕ) (fault : Fault) → GivesEvents steps (iter (source n)) events begins
-      → StopsAtError SafeBare n old new fault ⊎ IsOwnFault SafeBare n old new fault
-      → IsFaultOfWriting SafeHtml begins fault
-  safe_faults n old new fault gives (inl stop) =
-      inl (⊎_elim (λ is. is) (λ e. of_source n fault gives e)
-      (error_safe (unplaced_steps steps iter) source n stop.left stop.events fault stop.read))
-  safe_faults n old new fault gives (inr own) = own_safe n old new fault gives own
+  pub safe_faults : (old new : List ℕ) (fault : Fault)
+      → StopsAtErrorBy (html_rules (rules_view rules)) (safe_steps Bares) n old new fault
+      ⊎ IsOwnFaultBy (html_rules (rules_view rules)) (safe_steps Bares) n old new fault
+      → IsFaultOfWriting (SafeHtml rules) begins fault
+  safe_faults old new fault (inl stop) =
+      inl (⊎_elim (λ is. is) (λ e. of_source fault e)
+      (subst (λ (x : SafeReading M). (fault ≡ Memory) ⊎ IsOfSource Bares x.source fault) new_one
+      (error_safe Bares n stop.left stop.events fault stop.read)))
+  safe_faults old new fault (inr own) = own_safe old new fault own
 
 -- ---- lines of JSON, headings and links
 
@@ -263,60 +272,82 @@ placed_among seen text events lines same are = are ∙ ap (λ t. placed_event_li
 
 -- ---- events with their ranges, made safe
 
-module _ {S M : Type 0} (steps : S → Option Item → S → Type 0) (source : M → S) where
-  abbrev Safer : M → Option Item → M → Type 0
-  Safer s r t = GivesSafePlaced steps (source s) r (source t)
+module _ {S : Type 0} (steps : S → Option Item → S → Type 0) where
+  -- calls of what makes them safe
+  abbrev pub Safer : SafeWithOffset S → Option Item → SafeWithOffset S → Type 0
+  Safer s r t = GivesSafePlaced steps (placed_reading s) r (placed_reading t)
 
-  record ReadSafe (s t : S) (e : Placed) : Type 0 where
+  -- an event that is returned is one of the iterator, made safe
+  record ReadSafe (a b : SafeReading S) (e : Placed) : Type 0 where
     read : Placed
-    step : steps s (Some (Ok read)) t
-    is : ranged_view e ∷ [] ≡ safe_ranged (ranged_view read ∷ [])
+    step : steps a.source (Some (Ok read)) b.source
+    is : ranged_view e ≡ (safe_next a.rules a.past (event_view read.0), read.1)
+    after : b.past ≡ past_after a.rules a.past (event_view read.0)
 
-  read_safe : (s t : S) (item : Item) (e : Placed) → steps s (Some item) t → IsSafePlaced item (Ok e) → ReadSafe s t e
-  read_safe s t (Ok read) e step made = record { read = read; step = step; is = rw (made.0, made.1) refl }
-  read_safe s t (Err fault) e step made = cc made
+  read_safe : (a b : SafeReading S) (item : Item) (e : Placed) → steps a.source (Some item) b.source
+      → IsSafePlaced a.rules a.past item (Ok e) b.past → ReadSafe a b e
+  read_safe a b (Ok read) e step made =
+      record { read = read; step = step; is = rw (made.0, made.1) refl; after = made.2 }
+  read_safe a b (Err fault) e step made = cc made
 
-  record AreAllSafe (s t : S) (given : List Placed) : Type 0 where
+  -- the events returned are the first of those of the iterator, made safe
+  record AreFirstSafer (a : SafeReading S) (t : S) (given : List Placed) : Type 0 where
     read : List Placed
-    steps_to : Yields steps s (event_items read) t
-    are : map ranged_view given ≡ safe_ranged (map ranged_view read)
+    steps_to : Yields steps a.source (event_items read) t
+    are : map ranged_view given ≡ safe_ranged_from a.rules a.past (map ranged_view read)
 
-  all_safer : (m t : M) (given : List Placed) → Yields Safer m (event_items given) t
-      → AreAllSafe (source m) (source t) given
-  all_safer m t [] y = record { read = []; steps_to = ap source y; are = refl }
-  all_safer m t (e ∷ given) (j, h, y) =
-      let r = read_safe (source m) (source j) h.0 e h.1 h.2 in
-      let rest = all_safer j t given y in
-      record {
-        read = r.read ∷ rest.read;
-        steps_to = (source j, r.step, rest.steps_to);
-        are = ap (λ (es : List Ranged). ranged_view e ∷ es) rest.are
-            ∙ ap (λ (es : List Ranged). es ++ safe_ranged (map ranged_view rest.read)) r.is;
-      }
+  more_safer : (a b : SafeReading S) (t : S) (e : Placed) (given : List Placed) → b.rules ≡ a.rules → ReadSafe a b e
+      → AreFirstSafer b t given → AreFirstSafer a t (e ∷ given)
+  more_safer a b t e given same r rest = record {
+    read = r.read ∷ rest.read;
+    steps_to = (b.source, r.step, rest.steps_to);
+    are = ap (λ (x : Ranged). x ∷ map ranged_view given) r.is
+        ∙ ap (λ (es : List Ranged). (safe_next a.rules a.past (event_view r.read.0), r.read.1) ∷ es)
+        (rw (same, r.after) at rest.are);
+  }
 
-  memory_safer : (m t : M) (given : List Placed) (fault : Fault)
-      → ((read : List Placed) (l : S) (f : Fault) → Yields steps (source m) (event_items read ++ Err f ∷ []) l
+  first_safer : (m t : SafeWithOffset S) (given : List Placed) → Yields Safer m (event_items given) t
+      → AreFirstSafer (placed_reading m) (placed_reading t).source given
+  first_safer m t [] y =
+      record { read = []; steps_to = ap (λ (x : SafeWithOffset S). (placed_reading x).source) y; are = refl }
+  first_safer m t (e ∷ given) (j, h, y) =
+      more_safer (placed_reading m) (placed_reading j) (placed_reading t).source e given h.0
+      (read_safe (placed_reading m) (placed_reading j) h.1.0 e h.1.1 h.1.2) (first_safer j t given y)
+
+  -- an error is one of memory, where each of the iterator is
+  memory_first : (a b : SafeReading S) (item : Item) (fault : Fault)
+      → ((read : List Placed) (l : S) (f : Fault) → Yields steps a.source (event_items read ++ Err f ∷ []) l
       → f ≡ Memory)
+      → steps a.source (Some item) b.source → IsSafePlaced a.rules a.past item (Err fault) b.past → fault ≡ Memory
+  memory_first a b (Ok e) fault memory step made = made
+  memory_first a b (Err other) fault memory step made =
+      let same : fault ≡ other = cc made in same ∙ memory [] b.source other (b.source, step, refl)
+
+  memory_safer : (m t : SafeWithOffset S) (given : List Placed) (fault : Fault)
+      → ((read : List Placed) (l : S) (f : Fault)
+      → Yields steps (placed_reading m).source (event_items read ++ Err f ∷ []) l → f ≡ Memory)
       → Yields Safer m (event_items given ++ Err fault ∷ []) t → fault ≡ Memory
-  memory_safer m t [] fault memory (j, h, y) = by_item h.0 h.1 h.2
-    where
-      by_item : (item : Item) → steps (source m) (Some item) (source j) → IsSafePlaced item (Err fault)
-          → fault ≡ Memory
-      by_item (Ok e) step made = made
-      by_item (Err other) step made =
-          let same : fault ≡ other = cc made in same ∙ memory [] (source j) other (source j, step, refl)
+  memory_safer m t [] fault memory (j, h, y) =
+      memory_first (placed_reading m) (placed_reading j) h.1.0 fault memory h.1.1 h.1.2
   memory_safer m t (e ∷ given) fault memory (j, h, y) =
-      let r = read_safe (source m) (source j) h.0 e h.1 h.2 in
-      memory_safer j t given fault (λ events l f z. memory (r.read ∷ events) l f (source j, r.step, z)) y
+      let r = read_safe (placed_reading m) (placed_reading j) h.1.0 e h.1.1 h.1.2 in
+      memory_safer j t given fault
+      (λ events l f z. memory (r.read ∷ events) l f ((placed_reading j).source, r.step, z)) y
 
-  pub headings_read_safe : (m : M) (events : List Ranged) (begins : List Ranged → Type 0) (entries : List EntryView)
-      → GivesEvents steps (source m) events begins → IsOutlineOfAll Safer m entries
-      → entries ≡ entries_of (safe_ranged events)
-  headings_read_safe m events begins entries gives o =
+-- and if nothing was read yet of what makes them safe, all of them are read
+module _ {S : Type 0} (steps : S → Option Item → S → Type 0) (it : S) (events : List Ranged)
+    (begins : List Ranged → Type 0) (rules : SafeRulesView) (m : SafeWithOffset S)
+    (new_one : placed_reading m ≡ new_reading it rules) (gives : GivesEvents steps it events begins) where
+  pub headings_read_safe : (entries : List EntryView) → IsOutlineOfAll (Safer steps) m entries
+      → entries ≡ entries_of (safe_ranged rules events)
+  headings_read_safe entries o =
       let (u, (t, y, z)) = o.read in
-      let a = all_safer m t o.events y in
-      o.are ∙ ap entries_of (a.are ∙ ap safe_ranged (gives.whole a.read (source u, (source t, a.steps_to, z))))
+      let a : AreFirstSafer steps (new_reading it rules) (placed_reading t).source o.events =
+      rw new_one at (first_safer steps m t o.events y) in
+      o.are ∙ ap entries_of (a.are ∙ ap (safe_ranged rules)
+      (gives.whole a.read ((placed_reading u).source, ((placed_reading t).source, a.steps_to, z.1))))
 
-  pub headings_stopped_safe : (m : M) (events : List Ranged) (begins : List Ranged → Type 0) (fault : Fault)
-      → GivesEvents steps (source m) events begins → MeetsError Safer m fault → fault ≡ Memory
-  headings_stopped_safe m events begins fault gives e = memory_safer m e.left e.events fault gives.memory e.read
+  pub headings_stopped_safe : (fault : Fault) → MeetsError (Safer steps) m fault → fault ≡ Memory
+  headings_stopped_safe fault e =
+      memory_safer steps m e.left e.events fault (λ read l f y. gives.memory read l f
+      (subst (λ (x : SafeReading S). Yields steps x.source (event_items read ++ Err f ∷ []) l) new_one y)) e.read

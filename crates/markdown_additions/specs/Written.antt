@@ -1,5 +1,5 @@
 -- What is written of events with their ranges, by form, and why nothing is.
-use Rattle.std.specs.Prelude.{◌≡◌, ◌⊎◌, ℕ, Bool, List, map, if◌then◌else◌}
+use Rattle.std.specs.Prelude.{◌≡◌, ◌⊎◌, ℕ, List, [], ◌∷◌, map, Option, Some, None}
 use Rattle.std.specs.List.{flat_map}
 use Rattle.markdown_additions.specs.Additions.{AdditionsView, AreFirstAdded, added_events}
 use Rattle.markdown_additions.specs.declared.written.Form.{Form}
@@ -13,8 +13,9 @@ use Rattle.markdown_links.specs.LinkEntries.{LinkEntryView, link_entries_of}
 use Rattle.markdown_out.specs.EventHtml.{html_of}
 use Rattle.markdown_out.specs.LookBacks.{IsTooDeep}
 use Rattle.markdown_outline.specs.Outline.{EntryView, Ranged, entries_of}
-use Rattle.markdown_safe.specs.HtmlTree.{IsSafeTree}
-use Rattle.markdown_safe.specs.SafeEvents.{safe_event, safe_events}
+use Rattle.markdown_safe.specs.PlacedTree.{IsPlacedTree}
+use Rattle.markdown_safe.specs.SafeEvents.{SafePast, no_past, past_after, safe_events, safe_html_of, safe_next}
+use Rattle.markdown_safe.specs.SafeRules.{SafeRulesView, rules_view}
 
 -- events without their ranges
 abbrev pub bare_events : List Ranged → List EventView
@@ -27,13 +28,13 @@ ranged_line e = line_json e.0 e.1.start e.1.end
 -- what is written of events
 abbrev pub written_of : Form → List Ranged → List ℕ
 written_of Html events = html_of (bare_events events)
-written_of SafeHtml events = html_of (safe_events (bare_events events))
+written_of (SafeHtml rules) events = safe_html_of (rules_view rules) (bare_events events)
 written_of Lines events = flat_map ranged_line events
 
 -- among first events, as they are written in a form, more Starts are open in an image than can be counted
 abbrev pub IsTooDeepIn : Form → List Ranged → Type 0
 IsTooDeepIn Html events = IsTooDeep (bare_events events)
-IsTooDeepIn SafeHtml events = IsTooDeep (safe_events (bare_events events))
+IsTooDeepIn (SafeHtml rules) events = IsTooDeep (safe_events (rules_view rules) (bare_events events))
 IsTooDeepIn Lines events = ⊥
 
 -- first events that are so
@@ -54,20 +55,28 @@ written_of_text form a s = written_of form (added_events a s)
 abbrev pub IsFaultOfWritingText : Form → AdditionsView → Source → Fault → Type 0
 IsFaultOfWritingText form a s fault = IsFaultOfWriting form (AreFirstAdded a s) fault
 
--- safe HTML is a tree
+-- safe HTML is a tree, whose elements stand where a browser leaves them
 abbrev pub IsTreeIn : Form → List ℕ → Type 0
-IsTreeIn SafeHtml written = IsSafeTree written
+IsTreeIn (SafeHtml rules) written = IsPlacedTree written
 IsTreeIn other written = Unit {0}
 
--- events made safe, where that is asked for; their ranges stay
-abbrev pub safe_ranged : List Ranged → List Ranged
-safe_ranged events = map (λ (e : Ranged). (safe_event e.0, e.1)) events
+-- events after others, made safe; their ranges stay
+abbrev pub safe_ranged_from : SafeRulesView → SafePast → List Ranged → List Ranged
+safe_ranged_from rules past [] = []
+safe_ranged_from rules past (e ∷ events) =
+    (safe_next rules past e.0, e.1) ∷ safe_ranged_from rules (past_after rules past e.0) events
 
-abbrev pub safe_if : Bool → List Ranged → List Ranged
-safe_if asked events = if asked then safe_ranged events else events
+-- events made safe; their ranges stay
+abbrev pub safe_ranged : SafeRulesView → List Ranged → List Ranged
+safe_ranged rules events = safe_ranged_from rules no_past events
+
+-- the same, where that is asked for
+abbrev pub safe_if : Option SafeRulesView → List Ranged → List Ranged
+safe_if None events = events
+safe_if (Some rules) events = safe_ranged rules events
 
 -- the headings of a text with what is added, made safe where that is asked for
-abbrev pub headings_of_text : (safe : Bool) → AdditionsView → Source → List EntryView
+abbrev pub headings_of_text : (safe : Option SafeRulesView) → AdditionsView → Source → List EntryView
 headings_of_text safe a s = entries_of (safe_if safe (added_events a s))
 
 -- the links and images of a text with what is added

@@ -4,7 +4,7 @@ ghost use Rattle.markdown_additions.specs.Additions.{AdditionsView, additions_vi
 ghost use Rattle.markdown_additions.specs.TextEvents.{IsNewAdded};
 ghost use Rattle.markdown_additions.specs.Written.{IsFaultOfWritingText, IsTreeIn, written_of_text};
 ghost use Rattle.markdown_base.specs.Source.{Source, source_as};
-ghost use Rattle.markdown_safe.specs.HtmlTree.{IsSafeTree};
+ghost use Rattle.markdown_safe.specs.PlacedTree.{IsPlacedTree};
 
 use crate::additions::Additions;
 use crate::events::{TextEvents, added_events};
@@ -12,17 +12,17 @@ use crate::unplaced::Unplaced;
 use markdown_base::fault::Fault;
 use markdown_base::syntax::Syntax;
 use markdown_json::push_json;
-use markdown_out::push_html;
-use markdown_safe::Safe;
+use markdown_out::{push_html, push_html_by};
+use markdown_safe::{Safe, SafeRules};
 use std::alloc::Global;
 
 /// What is written of events.
-#[derive(Clone, Copy, Debug, PartialEq, Eq, Drop)]
-pub enum Form {
+#[derive(Clone, Copy, Debug, Drop)]
+pub enum Form<'r> {
     /// HTML, which is not sanitised.
     Html,
-    /// Safe HTML.
-    SafeHtml,
+    /// Safe HTML, by these rules.
+    SafeHtml(SafeRules<'r>),
     /// A line of JSON for each event, with its range.
     Lines,
 }
@@ -40,20 +40,26 @@ fn html(alloc: Global, events: TextEvents<'_>) -> Result<String, Fault>
     Ok(written)
 }
 
-/// Returns the safe HTML of the events of a text.
-fn safe_html(alloc: Global, events: TextEvents<'_>) -> Result<String, Fault>
+/// Returns the safe HTML of the events of a text, by these rules.
+fn safe_html<'a>(
+    alloc: Global,
+    events: TextEvents<'a>,
+    rules: SafeRules<'a>,
+) -> Result<String, Fault>
     ensures written { IfOk result (λ written. (a : AdditionsView) (s : Source)
         → IsNewAdded a s events.entry
-        → string_bytes written ≡ written_of_text Form.SafeHtml a s) }
+        → string_bytes written ≡ written_of_text (Form.SafeHtml rules.entry) a s) }
     ensures tree { IfOk result (λ written. (a : AdditionsView) (s : Source)
-        → IsNewAdded a s events.entry → IsSafeTree (string_bytes written)) }
+        → IsNewAdded a s events.entry → IsPlacedTree (string_bytes written)) }
     ensures faults { IfErr result (λ fault. (a : AdditionsView) (s : Source)
-        → IsNewAdded a s events.entry → IsFaultOfWritingText Form.SafeHtml a s fault) }
+        → IsNewAdded a s events.entry
+        → IsFaultOfWritingText (Form.SafeHtml rules.entry) a s fault) }
 {
     let mut written = String::new(alloc);
     let unplaced = Unplaced::new(events);
-    let safe = Safe::new(alloc, unplaced);
-    push_html(alloc, &mut written, safe)?;
+    let safe = Safe::with_rules(alloc, unplaced, rules);
+    let form = rules.html();
+    push_html_by(alloc, &mut written, safe, form)?;
     Ok(written)
 }
 
@@ -75,23 +81,23 @@ fn lines(alloc: Global, events: TextEvents<'_>) -> Result<String, Fault>
 /// # Errors
 ///
 /// `Memory` if an allocation fails, and `Depth` where more than 2^64 - 1 Starts are open in one image.
-pub fn written_source(
+pub fn written_source<'a>(
     alloc: Global,
-    text: &str,
+    text: &'a str,
     syntax: Syntax,
     additions: Additions<'_>,
-    form: Form,
+    form: Form<'a>,
 ) -> Result<String, Fault>
     ensures written { IfOk result (λ written. string_bytes written
-        ≡ written_of_text form (additions_view additions.entry) (source_as syntax text.now)) }
-    ensures tree { IfOk result (λ written. IsTreeIn form (string_bytes written)) }
-    ensures faults { IfErr result
-        (IsFaultOfWritingText form (additions_view additions.entry) (source_as syntax text.now)) }
+        ≡ written_of_text form.entry (additions_view additions.entry) (source_as syntax text.now)) }
+    ensures tree { IfOk result (λ written. IsTreeIn form.entry (string_bytes written)) }
+    ensures faults { IfErr result (IsFaultOfWritingText form.entry
+        (additions_view additions.entry) (source_as syntax text.now)) }
 {
     let events = added_events(alloc, text, syntax, additions)?;
     match form {
         Form::Html => html(alloc, events),
-        Form::SafeHtml => safe_html(alloc, events),
+        Form::SafeHtml(rules) => safe_html(alloc, events, rules),
         Form::Lines => lines(alloc, events),
     }
 }

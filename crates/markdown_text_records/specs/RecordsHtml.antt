@@ -9,8 +9,9 @@ use Rattle.markdown_records.specs.RecordEntry.{Contents}
 use Rattle.markdown_records.specs.SaidBy.{events_among}
 use Rattle.markdown_records.specs.declared.fault.RecordFault.{RecordFault}
 use Rattle.markdown_records.specs.declared.fault.RecordFault.TheVariants.{NotRecords, Of, TooLong}
-use Rattle.markdown_safe.specs.SafeEvents.{safe_events}
+use Rattle.markdown_safe.specs.SafeEvents.{safe_html_of}
 use Rattle.markdown_safe.specs.SafeHtml.{IsSafeHtml}
+use Rattle.markdown_safe.specs.SafeRules.{SafeRulesView}
 
 -- the HTML of the events that records say
 pub record IsHtmlOfRecords (source bytes html : List ℕ) : Type 0 where
@@ -18,11 +19,11 @@ pub record IsHtmlOfRecords (source bytes html : List ℕ) : Type 0 where
   pub said : decoded source bytes ≡ Some contents
   pub is : html ≡ html_of (events_among contents.entries)
 
--- their safe HTML, which is safe
-pub record IsSafeHtmlOfRecords (source bytes html : List ℕ) : Type 0 where
+-- their safe HTML by rules, which is safe
+pub record IsSafeHtmlOfRecords (rules : SafeRulesView) (source bytes html : List ℕ) : Type 0 where
   pub contents : Contents
   pub said : decoded source bytes ≡ Some contents
-  pub is : html ≡ html_of (safe_events (events_among contents.entries))
+  pub is : html ≡ safe_html_of rules (events_among contents.entries)
   pub safe : IsSafeHtml html
 
 -- among the first of the events that records say, as they are written, more Starts are open in an image than can be

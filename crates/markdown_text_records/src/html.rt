@@ -1,13 +1,14 @@
 //! The HTML of what records say.
 ghost use Rattle.std.specs.Prelude.{MatchResult, string_bytes};
 ghost use Rattle.markdown_safe.specs.SafeEvents.{safe_events};
+ghost use Rattle.markdown_safe.specs.SafeRules.{rules_view};
 ghost use Rattle.markdown_text_records.specs.RecordsHtml.{IsFaultOf, IsHtmlOfRecords, IsSafeHtmlOfRecords};
 
 use markdown_base::fault::Fault;
-use markdown_out::push_html;
+use markdown_out::{push_html, push_html_by};
 use markdown_records::laws::the_events_left_are_returned;
 use markdown_records::{RecordFault, RecordedText};
-use markdown_safe::Safe;
+use markdown_safe::{Safe, SafeRules};
 use std::alloc::Global;
 
 /// Returns the HTML of the events that records say of a text.
@@ -28,7 +29,7 @@ pub fn html_of_records(alloc: Global, text: &str, records: &[u8]) -> Result<Stri
     Ok(html)
 }
 
-/// Returns the safe HTML of the events that records say of a text: whatever they say, no script runs.
+/// Returns the safe HTML of the events that records say of a text, by rules: whatever they say, no script runs.
 ///
 /// # Errors
 ///
@@ -37,16 +38,18 @@ pub fn safe_html_of_records(
     alloc: Global,
     text: &str,
     records: &[u8],
+    rules: SafeRules<'_>,
 ) -> Result<String, RecordFault>
-    ensures { MatchResult result (λ html. IsSafeHtmlOfRecords text.now records.now
-        (string_bytes html))
-        (IsFaultOf safe_events text.now records.now) }
+    ensures { MatchResult result (λ html. IsSafeHtmlOfRecords (rules_view rules.entry) text.now
+        records.now (string_bytes html))
+        (IsFaultOf (safe_events (rules_view rules.entry)) text.now records.now) }
 {
     let recorded = RecordedText::of_bytes(alloc, text, records)?;
     let events = recorded.events(alloc);
     the_events_left_are_returned(&events);
-    let safe = Safe::new(alloc, events);
+    let safe = Safe::with_rules(alloc, events, rules);
+    let form = rules.html();
     let mut html = String::new(alloc);
-    push_html(alloc, &mut html, safe)?;
+    push_html_by(alloc, &mut html, safe, form)?;
     Ok(html)
 }

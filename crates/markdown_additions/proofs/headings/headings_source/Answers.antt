@@ -4,26 +4,26 @@ use Rattle.markdown_additions.specs.Additions.{additions_view}
 use Rattle.markdown_base.specs.Source.{source_as}
 use Rattle.markdown_additions.proofs.headings.headings_source.Goals as goal
 
-pub returns-then-safe-clause-headings : goal.returns-then-safe-clause-headings
-returns-then-safe-clause-headings c =
-    rw c.if-safe.true (IfOk-weaker c.safe_headings.result _ _
+pub returns-in-Some-clause-headings : goal.returns-in-Some-clause-headings
+returns-in-Some-clause-headings c =
+    rw c.in-Some.is (IfOk-weaker c.safe_headings.result _ _
     (λ x h. h (additions_view c.args.additions) (source_as c.args.syntax c.args.text.now)
     c.in_ok-events.ensures.new) c.safe_headings.ensures.headings)
 
-pub returns-then-safe-clause-refused : goal.returns-then-safe-clause-refused
-returns-then-safe-clause-refused c =
+pub returns-in-Some-clause-refused : goal.returns-in-Some-clause-refused
+returns-in-Some-clause-refused c =
     IfErr-weaker c.safe_headings.result _ _
     (λ x h. h (additions_view c.args.additions) (source_as c.args.syntax c.args.text.now)
     c.in_ok-events.ensures.new) c.safe_headings.ensures.refused
 
-pub returns-else-safe-clause-headings : goal.returns-else-safe-clause-headings
-returns-else-safe-clause-headings c =
-    rw c.if-safe.false (IfOk-weaker c.plain_headings.result _ _
+pub returns-in-None-clause-headings : goal.returns-in-None-clause-headings
+returns-in-None-clause-headings c =
+    rw c.in-None.is (IfOk-weaker c.plain_headings.result _ _
     (λ x h. h (additions_view c.args.additions) (source_as c.args.syntax c.args.text.now)
     c.in_ok-events.ensures.new) c.plain_headings.ensures.headings)
 
-pub returns-else-safe-clause-refused : goal.returns-else-safe-clause-refused
-returns-else-safe-clause-refused c =
+pub returns-in-None-clause-refused : goal.returns-in-None-clause-refused
+returns-in-None-clause-refused c =
     IfErr-weaker c.plain_headings.result _ _
     (λ x h. h (additions_view c.args.additions) (source_as c.args.syntax c.args.text.now)
     c.in_ok-events.ensures.new) c.plain_headings.ensures.refused
