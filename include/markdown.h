@@ -194,10 +194,16 @@ int64_t markdown_to_html(const uint8_t *text, size_t text_length, uint32_t optio
 
 /** Renders an untrusted `text` as safe HTML.
  *
- * Raw HTML is shown as text. A destination is empty unless its scheme is `http`, `https`, `mailto` or `tel`, that of an
- * image `http` or `https`, or it has no scheme; that of a wikilink begins with `./` instead. The ids of headings and
- * footnotes begin with `user-content-`, and a link to `#x` leads to `#user-content-x`. Put the HTML into a `div` of a page that is declared to be in UTF-8, and not into a link or a
- * paragraph. Images are loaded from where the text says.
+ * Raw HTML is shown as text, but for its comments, which go, and the tags `br`, `wbr` and `hr`, which stay without their
+ * attributes. A destination is empty unless its scheme is `http`, `https`, `mailto` or `tel`, that of an image `http` or
+ * `https`, or it has no scheme; that of a wikilink begins with `./` instead. A link to another site has
+ * `rel="nofollow ugc noopener"`, and no link is in a link. The ids of headings and footnotes begin with `user-content-`, and a
+ * link to `#x` leads to `#user-content-x`. The alignment of a cell is its attribute `align`. Images are loaded from where the
+ * text says.
+ *
+ * Each end tag is that of the last element that is open, and no element is left open. At most 128 tags stand in one another:
+ * what nests deeper loses its tags, and its text stays. Elements stand where a browser leaves them, if the HTML is put into
+ * a `div` that stands in no link, heading or paragraph, on a page that is declared to be in UTF-8.
  *
  * Results and errors are those of `markdown_to_html`.
  */
@@ -258,7 +264,8 @@ int64_t markdown_records_to_html(const uint8_t *text, size_t text_length, const 
                                  uint32_t options, uint8_t *out, size_t out_length);
 
 /** Renders `records` of an untrusted `text` as safe HTML, as `markdown_to_safe_html` does: what a caller inserts as raw
- * HTML is shown as text too. Results and errors are those of `markdown_records_to_html`.
+ * HTML is shown as text too. Where elements stand is not looked at: Starts and Ends that do not match have tags that do
+ * not. Results and errors are those of `markdown_records_to_html`.
  */
 int64_t markdown_records_to_safe_html(const uint8_t *text, size_t text_length, const uint8_t *records,
                                       size_t records_length, uint32_t options, uint8_t *out, size_t out_length);

@@ -39,14 +39,17 @@ pub mod merge {
 /// The HTML of events, and of texts.
 pub mod html {
     pub use crate::rendering::to_html;
-    pub use markdown_out::html::push_html;
+    pub use markdown_out::html::{HtmlRules, push_html, push_html_by};
     pub use markdown_render::{merged_html, render, render_source};
 }
 
-/// Safe HTML of untrusted input: events made safe, and the HTML of a text's.
+/// Safe HTML of untrusted input: events made safe by rules, and the HTML of a text's.
 pub mod safe {
     pub use crate::rendering::to_safe_html;
-    pub use markdown_safe::{Safe, SafeWithOffset, safe_event, safe_html, safe_html_source};
+    pub use markdown_safe::{
+        Images, Safe, SafeRules, SafeWithOffset, is_page_part, safe_event, safe_html,
+        safe_html_source, safe_html_with,
+    };
 }
 
 /// The full reading: CommonMark but for what DIFFERENCES names, and the extensions. `Parser::new_extended` and
@@ -89,7 +92,8 @@ pub mod laws {
     pub use markdown_render::merged::{offsets_can_be_merged, parsers_can_be_merged};
     pub use markdown_safe::laws::{
         each_less_than_begins_a_tag, html_of_a_safe_iterator_is_safe,
-        html_of_nested_events_is_a_tree, html_of_safe_events_is_safe, safe_html_of_texts_is_safe,
+        html_of_nested_events_is_a_tree, html_of_page_parts_is_placed, html_of_safe_events_is_safe,
+        page_parts_pass_each_test, safe_events_nest_no_deeper, safe_html_of_texts_is_safe,
     };
 }
 

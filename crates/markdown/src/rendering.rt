@@ -22,7 +22,8 @@ pub fn to_html(alloc: Global, text: &str, options: Options) -> Result<String, Fa
     render_extended(alloc, text, options, None::<DefaultBrokenLinkCallback>)
 }
 
-/// Returns safe HTML of a text, by the full reading with these extensions: text, and tags and attributes of a fixed table.
+/// Returns safe HTML of a text, by the full reading with these extensions: text, and tags and attributes of a fixed table,
+/// whose elements stand where a browser leaves them. `safe::safe_html_with` takes rules besides.
 ///
 /// # Errors
 ///

@@ -1,22 +1,26 @@
 -- A call from C: its outcome, the number that it returns, and what the buffer then holds.
 use Rattle.std.specs.Prelude.{◌≡◌, ℕ, ◌+◌, ℤ, Bool, true, false, not, ◌&&◌, ◌==◌, pos, negsuc, nat_le, ◌++◌, List}
 use Rattle.std.specs.Prelude.{length, drop, flat_map, if◌then◌else◌}
-use Rattle.std.specs.Prelude.{Result, Ok, Err, String, Vec, string_bytes}
+use Rattle.std.specs.Prelude.{None, Result, Ok, Err, String, Vec, string_bytes}
 use Rattle.std.specs.Global.{Global}
 use Rattle.std.specs.Int.RustNames.{bit_and}
 use Rattle.std.specs.Str.{IsUtf8}
-use Rattle.markdown_additions.specs.Additions.{AdditionsView, AreFirstAdded, adds_ids, adds_no_ids}
-use Rattle.markdown_additions.specs.Written.{BeginsTooDeep, headings_of_text, written_of_text}
+use Rattle.markdown_additions.specs.Additions.{AdditionsView, AreFirstAdded, added_events, adds_ids, adds_no_ids}
+use Rattle.markdown_additions.specs.Written.{BeginsTooDeep, bare_events, headings_of_text, written_of_text}
 use Rattle.markdown_additions.specs.declared.written.Form.{Form}
-use Rattle.markdown_additions.specs.declared.written.Form.TheVariants.{Html, SafeHtml, Lines}
+use Rattle.markdown_additions.specs.declared.written.Form.TheVariants.{Html, Lines}
 use Rattle.markdown_base.specs.declared.fault.Fault.{Fault}
 use Rattle.markdown_base.specs.declared.fault.Fault.TheVariants as fault
 use Rattle.markdown_base.specs.Source.{Source, source_as}
 use Rattle.markdown_base.specs.Syntax.{full_syntax, profile_syntax}
 use Rattle.markdown_base.specs.declared.syntax.Syntax.{Syntax}
+use Rattle.markdown_out.specs.LookBacks.{IsTooDeep}
+use Rattle.markdown_outline.specs.Outline.{Ranged}
 use Rattle.markdown_render.specs.Words.{of_bits}
-use Rattle.markdown_safe.specs.HtmlTree.{IsSafeTree}
+use Rattle.markdown_safe.specs.PlacedTree.{IsPlacedTree}
+use Rattle.markdown_safe.specs.SafeEvents.{safe_events, safe_html_of}
 use Rattle.markdown_safe.specs.SafeHtml.{IsSafeHtml}
+use Rattle.markdown_safe.specs.SafeRules.{default_rules}
 use Rattle.markdown_text_json.specs.OutlineJson.{entry_line}
 use Rattle.markdown_c.specs.declared.readings.Refusal.{Refusal}
 use Rattle.markdown_c.specs.declared.readings.Refusal.TheVariants.{NotUtf8, Memory, Depth, UnknownOption}
@@ -107,14 +111,22 @@ abbrev pub IsHtmlOutcome : (bits : ℕ) → (text : List ℕ) → Result (List �
 IsHtmlOutcome bits =
     IsOutcome (λ s html. html ≡ written_of_text Html (additions_by_bits bits) s) (IsTooDeepAsAsked Html bits) bits
 
--- the safe HTML, which is safe and a tree
+-- the safe HTML, by the rules of a caller who chooses nothing; it is safe, and a tree whose elements stand where a
+-- browser leaves them
 pub record IsSafeHtmlOf (bits : ℕ) (s : Source) (html : List ℕ) : Type 0 where
-  pub is : html ≡ written_of_text SafeHtml (additions_by_bits bits) s
+  pub is : html ≡ safe_html_of default_rules (bare_events (added_events (additions_by_bits bits) s))
   pub safe : IsSafeHtml html
-  pub tree : IsSafeTree html
+  pub tree : IsPlacedTree html
+
+-- among the first events of a text with what the bits add, made safe, more Starts are open in an image than can be
+-- counted
+pub record IsSafeTooDeepAsAsked (bits : ℕ) (s : Source) : Type 0 where
+  pub events : List Ranged
+  pub begin : AreFirstAdded (additions_by_bits bits) s events
+  pub deep : IsTooDeep (safe_events default_rules (bare_events events))
 
 abbrev pub IsSafeHtmlOutcome : (bits : ℕ) → (text : List ℕ) → Result (List ℕ) Refusal → Type 0
-IsSafeHtmlOutcome bits = IsOutcome (IsSafeHtmlOf bits) (IsTooDeepAsAsked SafeHtml bits) bits
+IsSafeHtmlOutcome bits = IsOutcome (IsSafeHtmlOf bits) (IsSafeTooDeepAsAsked bits) bits
 
 -- the lines of the events
 abbrev pub IsJsonOutcome : (bits : ℕ) → (text : List ℕ) → Result (List ℕ) Refusal → Type 0
@@ -124,7 +136,7 @@ IsJsonOutcome bits =
 -- the lines of the headings of a text, with their ids where the bits give them ids
 abbrev pub outline_by_bits : (bits : ℕ) → Source → List ℕ
 outline_by_bits bits s =
-    flat_map (entry_line (gives_ids bits)) (headings_of_text false (additions_by_bits bits) s)
+    flat_map (entry_line (gives_ids bits)) (headings_of_text None (additions_by_bits bits) s)
 
 abbrev pub IsOutlineOutcome : (bits : ℕ) → (text : List ℕ) → Result (List ℕ) Refusal → Type 0
 IsOutlineOutcome bits = IsOutcome (λ s lines. lines ≡ outline_by_bits bits s) NeverTooDeep bits

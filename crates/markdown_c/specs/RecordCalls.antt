@@ -13,6 +13,7 @@ use Rattle.markdown_records.specs.RecordEntry.{Contents}
 use Rattle.markdown_records.specs.declared.fault.RecordFault.{RecordFault}
 use Rattle.markdown_records.specs.declared.fault.RecordFault.TheVariants as fault
 use Rattle.markdown_safe.specs.SafeEvents.{safe_events}
+use Rattle.markdown_safe.specs.SafeRules.{default_rules}
 use Rattle.markdown_text_records.specs.AnswerTable.{Table, table_of}
 use Rattle.markdown_text_records.specs.RecordsHtml.{ReadsTooDeep, IsHtmlOfRecords, IsSafeHtmlOfRecords}
 use Rattle.markdown_text_records.specs.TextRecords.{AreRecordsOf, BeginsTooLong}
@@ -56,9 +57,9 @@ IsReadOutcome IsOf as_written bits text records (Err TooLong) = ⊥
 abbrev pub IsRecordsHtmlOutcome : (bits : ℕ) → (text records : List ℕ) → Result (List ℕ) Refusal → Type 0
 IsRecordsHtmlOutcome = IsReadOutcome IsHtmlOfRecords (λ events. events)
 
--- the same, made safe
+-- the same, made safe by the rules of a caller who chooses nothing
 abbrev pub IsRecordsSafeHtmlOutcome : (bits : ℕ) → (text records : List ℕ) → Result (List ℕ) Refusal → Type 0
-IsRecordsSafeHtmlOutcome = IsReadOutcome IsSafeHtmlOfRecords safe_events
+IsRecordsSafeHtmlOutcome = IsReadOutcome (IsSafeHtmlOfRecords default_rules) (safe_events default_rules)
 
 -- the case folding of a label
 abbrev pub IsFoldOutcome : (label : List ℕ) → Result (List ℕ) Refusal → Type 0

@@ -26,9 +26,10 @@ pub extern "C" fn markdown_to_html(alloc: Global, text: &[u8], options: u32, out
     answer(html_of(alloc, text, options), out)
 }
 
-/// Renders a text that a stranger wrote as safe HTML: raw HTML is shown as text, and a destination whose scheme could
-/// run a script is left out. Returns the length of the HTML in bytes, and writes the HTML to the front of `out`, if it
-/// fits; otherwise `out` is unchanged. `options` are as for `markdown_to_html`.
+/// Renders a text that a stranger wrote as safe HTML: raw HTML is shown as text, but for its comments, which go, and the
+/// tags `br`, `wbr` and `hr`; a destination whose scheme could run a script is left out; links to other sites have a
+/// `rel`; and elements stand where a browser leaves them. Returns the length of the HTML in bytes, and writes the HTML to
+/// the front of `out`, if it fits; otherwise `out` is unchanged. `options` are as for `markdown_to_html`.
 ///
 /// # Errors
 ///

@@ -16,6 +16,7 @@ use markdown_base::fault::Fault;
 use markdown_base::options::Options;
 use markdown_base::syntax::Syntax;
 use markdown_outline::Entry;
+use markdown_safe::SafeRules;
 use markdown_text_json::{push_outline, push_outline_with_ids};
 use std::alloc::{AllocError, Global};
 use std::str;
@@ -137,7 +138,8 @@ pub(crate) fn safe_html_of(alloc: Global, bytes: &[u8], bits: u32) -> Result<Str
     let syntax = syntax_of(bits)?;
     let text = text_of(bytes)?;
     let additions = additions_of(bits);
-    Ok(written_source(alloc, text, syntax, additions, Form::SafeHtml)?)
+    let rules = SafeRules::new();
+    Ok(written_source(alloc, text, syntax, additions, Form::SafeHtml(rules))?)
 }
 
 /// Returns the lines of the events of a text.
@@ -171,7 +173,7 @@ fn outline_source(alloc: Global, text: &str, syntax: Syntax, bits: u32) -> Resul
     ensures refused { IfErr result (λ fault. fault ≡ Fault.Memory) }
 {
     let additions = additions_of(bits);
-    let headings = headings_source(alloc, text, syntax, additions, false)?;
+    let headings = headings_source(alloc, text, syntax, additions, None)?;
     Ok(lines_of(alloc, headings.as_slice(), gives_ids(bits))?)
 }
 

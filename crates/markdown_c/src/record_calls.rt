@@ -56,8 +56,8 @@ pub extern "C" fn markdown_records_to_html(
     answer(records_html_of(alloc, text, records, options), out)
 }
 
-/// Renders the events that records say of a text as safe HTML, whatever they say: raw HTML is shown as text, and a
-/// destination whose scheme could run a script is left out. The rest is as for `markdown_records_to_html`.
+/// Renders the events that records say of a text as safe HTML, whatever they say, as `markdown_to_safe_html` renders a
+/// text; but where elements stand is not looked at. The rest is as for `markdown_records_to_html`.
 ///
 /// # Errors
 ///

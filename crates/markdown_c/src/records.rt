@@ -10,6 +10,7 @@ ghost use Rattle.markdown_text_records.specs.AnsweringView.{table_in};
 
 use crate::readings::{Refusal, syntax_of, text_of};
 use markdown_records::{RecordAnswers, RecordFault, RecordedText};
+use markdown_safe::SafeRules;
 use markdown_text_records::{fold_label, html_of_records, records_source, safe_html_of_records};
 use std::alloc::Global;
 
@@ -89,7 +90,7 @@ pub(crate) fn records_safe_html_of(
 {
     let _ = syntax_of(bits)?;
     let text = text_of(bytes)?;
-    Ok(safe_html_of_records(alloc, text, records)?)
+    Ok(safe_html_of_records(alloc, text, records, SafeRules::new())?)
 }
 
 /// Returns the case folding of a link label.

@@ -20,7 +20,7 @@ pub fn headings(alloc: Global, source: &str) -> Result<Vec<Entry>, Fault>
         autolinks: false,
         ids: Ids::All,
     };
-    headings_source(alloc, source, syntax, additions, false)
+    headings_source(alloc, source, syntax, additions, None)
 }
 
 /// Returns the table of contents of a text: a line for each heading, below the nearest heading of a lower level, with a
