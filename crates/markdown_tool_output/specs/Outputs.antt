@@ -1,12 +1,12 @@
 -- What is written for files, by format, and for a request.
-use Rattle.std.specs.Prelude.{◌≡◌, ℕ, suc, Bool, false, not, ◌&&◌, if◌then◌else◌, List, [], ◌∷◌, ◌++◌, length}
-use Rattle.std.specs.Prelude.{◌⊎◌, ◌==◌, Option, Some, None, bytes_eq, is_some, true}
+use Rattle.std.specs.Prelude.{◌≡◌, ℕ, suc, Bool, not, ◌&&◌, if◌then◌else◌, List, [], ◌∷◌, ◌++◌, length}
+use Rattle.std.specs.Prelude.{◌⊎◌, ◌==◌, Option, Some, None, bytes_eq, is_some}
 use Rattle.std.specs.Prelude.{option_map, codes, decimal, map, nat_lt, slice_get, string_bytes, unwrap_or}
 use denote.Ref.{Bor}
-use Rattle.markdown_additions.specs.Additions.{AdditionsView, IdsView, added_events, adds_ids, adds_no_ids}
-use Rattle.markdown_additions.specs.Additions.{adds_prefixed_ids}
-use Rattle.markdown_additions.specs.Written.{IsFaultOfWritingText, headings_of_text, links_with_additions}
-use Rattle.markdown_additions.specs.Written.{written_of_text}
+use Rattle.markdown_additions.specs.Additions.{AdditionsView, AreFirstAdded, IdsView, added_events, adds_ids}
+use Rattle.markdown_additions.specs.Additions.{adds_no_ids, adds_prefixed_ids}
+use Rattle.markdown_additions.specs.Written.{IsFaultOfWritingText, bare_events, headings_of_text}
+use Rattle.markdown_additions.specs.Written.{links_with_additions, written_of_text}
 use Rattle.markdown_additions.specs.declared.written.Form.TheVariants as form
 use Rattle.markdown_base.specs.Source.{Source, source_as}
 use Rattle.markdown_base.specs.Syntax.{full_syntax}
@@ -19,10 +19,13 @@ use Rattle.markdown_lint_json.specs.BrokenJson.{broken_lines, broken_of_text, pl
 use Rattle.markdown_lint_json.specs.LinkJson.{link_lines, placed_link_lines}
 use Rattle.markdown_lint_json.specs.PlacedEvents.{placed_event_lines}
 use Rattle.markdown_lint_json.specs.PlacedOutline.{placed_outline_lines}
-use Rattle.markdown_outline.specs.Outline.{EntryView}
+use Rattle.markdown_out.specs.LookBacks.{IsTooDeep}
+use Rattle.markdown_outline.specs.Outline.{EntryView, Ranged}
 use Rattle.markdown_page.specs.FileTitle.{file_title}
 use Rattle.markdown_page.specs.MetadataTitle.{shown_title}
 use Rattle.markdown_page.specs.PageHtml.{page_html, style_of}
+use Rattle.markdown_safe.specs.SafeEvents.{safe_events, safe_html_of}
+use Rattle.markdown_safe.specs.SafeRules.{SafeRulesView, default_rules}
 use Rattle.markdown_text_json.specs.OutlineJson.{outline_lines, outline_lines_with_ids}
 use Rattle.markdown_tool_command.specs.Requests.{PageView, page_view, standard}
 use Rattle.markdown_tool_command.specs.declared.choices.Format.{Format}
@@ -76,7 +79,7 @@ events_of_file positions e f =
 
 -- the headings of a file, with their ids where those are enabled
 abbrev pub line_headings : Enabled → FileView → List EntryView
-line_headings e f = headings_of_text false (line_additions e) (file_source e f)
+line_headings e f = headings_of_text None (line_additions e) (file_source e f)
 
 -- the lines of the headings of a file without places, with their ids where those are enabled
 abbrev pub bare_outline : Enabled → FileView → List ℕ
@@ -106,22 +109,37 @@ broken_of_file positions e f =
 abbrev pub link_name : FileView → List ℕ
 link_name f = if f.several && not (bytes_eq f.name standard) then f.name else []
 
+-- the safe HTML of a file, by the rules of a caller who chooses nothing
+abbrev pub safe_html_of_file : Enabled → FileView → List ℕ
+safe_html_of_file e f =
+    safe_html_of default_rules (bare_events (added_events (html_additions e f) (file_source e f)))
+
+-- among the first events of a file, each made safe, more Starts are open in an image than can be counted
+pub record IsSafeFileTooDeep (e : Enabled) (f : FileView) : Type 0 where
+  pub events : List Ranged
+  pub begin : AreFirstAdded (html_additions e f) (file_source e f) events
+  pub deep : IsTooDeep (safe_events default_rules (bare_events events))
+
+-- this is why no safe HTML is written for a file
+abbrev pub IsFaultOfSafeFile : Enabled → FileView → Fault → Type 0
+IsFaultOfSafeFile e f fault =
+    (fault ≡ fault_kind.Memory) ⊎ ((fault ≡ fault_kind.Depth) × IsSafeFileTooDeep e f)
+
 -- what is written for a file, with places in its lines where positions are asked for
 abbrev pub output_of_file : Format → (positions : Bool) → Enabled → FileView → List ℕ
 output_of_file format.Html positions e f = written_of_text form.Html (html_additions e f) (file_source e f)
-output_of_file format.SafeHtml positions e f = written_of_text form.SafeHtml (html_additions e f) (file_source e f)
+output_of_file format.SafeHtml positions e f = safe_html_of_file e f
 output_of_file format.Events positions e f = events_of_file positions e f
 output_of_file format.Outline positions e f = outline_of_file positions e f
 output_of_file format.Links positions e f = links_of_file positions e f
 output_of_file format.Broken positions e f = broken_of_file positions e f
 output_of_file format.Contents positions e f =
-    contents_in_file (link_name f) (headings_of_text false (contents_additions e) (file_source e f))
+    contents_in_file (link_name f) (headings_of_text None (contents_additions e) (file_source e f))
 
 -- this is why nothing is written for a file: an allocation was refused, or its text is too deep for HTML
 abbrev pub IsFaultOfFile : Format → Enabled → FileView → Fault → Type 0
 IsFaultOfFile format.Html e f fault = IsFaultOfWritingText form.Html (html_additions e f) (file_source e f) fault
-IsFaultOfFile format.SafeHtml e f fault =
-    IsFaultOfWritingText form.SafeHtml (html_additions e f) (file_source e f) fault
+IsFaultOfFile format.SafeHtml e f fault = IsFaultOfSafeFile e f fault
 IsFaultOfFile format.Events e f fault = IsFaultOfWritingText form.Lines (line_additions e) (file_source e f) fault
 IsFaultOfFile format.Outline e f fault = fault ≡ fault_kind.Memory
 IsFaultOfFile format.Links e f fault = fault ≡ fault_kind.Memory
@@ -172,14 +190,14 @@ first_title [] = None
 first_title (e ∷ entries) = if e.level == 1 && is_some (shown_title e.text) then shown_title e.text
     else first_title entries
 
--- whether the events of a file are made safe
-abbrev pub is_safe : Format → Bool
-is_safe format.SafeHtml = true
-is_safe other = false
+-- the rules by which the events of a file are made safe, where they are
+abbrev pub safe_rules : Format → Option SafeRulesView
+safe_rules format.SafeHtml = Some default_rules
+safe_rules other = None
 
 -- the headings of a file as its HTML shows them
 abbrev pub headings_of_file : Format → Enabled → FileView → List EntryView
-headings_of_file format e f = headings_of_text (is_safe format) (html_additions e f) (file_source e f)
+headings_of_file format e f = headings_of_text (safe_rules format) (html_additions e f) (file_source e f)
 
 -- the title that a file's first heading of level 1 with a text gives a page, or otherwise its name
 abbrev pub title_of_headings : Format → Enabled → FileView → List ℕ

@@ -1,14 +1,16 @@
 //! The headings of a file: its outline, its table of contents, and what a page has of them.
-ghost use Rattle.std.specs.Prelude.{◌≡◌, IfErr, IfOk, false, map, option_copied, string_bytes};
+ghost use Rattle.std.specs.Prelude.{◌≡◌, IfErr, IfOk, None, map, option_copied, string_bytes};
+ghost use Rattle.std.specs.Option.{option_map};
 ghost use Rattle.markdown_additions.specs.Written.{headings_of_text};
 ghost use Rattle.markdown_contents.specs.Contents.{contents_in_file};
 ghost use Rattle.markdown_lint_json.specs.PlacedOutline.{placed_outline_lines};
 ghost use Rattle.markdown_outline.specs.Outline.{entry_view};
+ghost use Rattle.markdown_safe.specs.SafeRules.{rules_view};
 ghost use Rattle.markdown_tool_output.specs.FileText.{without_mark};
 ghost use Rattle.markdown_tool_output.specs.Files.{file_view};
 ghost use Rattle.markdown_tool_output.specs.Outputs.{bare_outline, contents_additions, file_source, first_title};
-ghost use Rattle.markdown_tool_output.specs.Outputs.{headings_of_file, is_safe, line_headings, link_name};
-ghost use Rattle.markdown_tool_output.specs.Outputs.{outline_of_file};
+ghost use Rattle.markdown_tool_output.specs.Outputs.{headings_of_file, line_headings, link_name};
+ghost use Rattle.markdown_tool_output.specs.Outputs.{outline_of_file, safe_rules};
 
 use crate::additions::{contents_additions, line_additions};
 use crate::file::{File, file_prefix, link_name};
@@ -21,6 +23,7 @@ use markdown_lint_json::push_outline_with_places;
 use markdown_outline::Entry;
 use markdown_page::heading_title;
 use markdown_positions::Positions;
+use markdown_safe::SafeRules;
 use markdown_text_json::{push_outline, push_outline_with_ids};
 use markdown_tool_command::Format;
 use markdown_tool_command::extensions::Enabled;
@@ -34,7 +37,7 @@ fn line_headings(alloc: Global, enabled: Enabled, file: File<'_>) -> Result<Vec<
 {
     let syntax = Syntax::full(enabled.options);
     let text = without_mark(file.text);
-    headings_source(alloc, text, syntax, line_additions(enabled), false)
+    headings_source(alloc, text, syntax, line_additions(enabled), None)
 }
 
 /// Returns the lines of the headings of a file without places, with their ids where those are enabled.
@@ -99,22 +102,25 @@ pub(crate) fn contents_of_file(
 ) -> Result<String, Fault>
     ensures list { IfOk result (λ list. string_bytes list
         ≡ contents_in_file (link_name (file_view file.entry))
-        (headings_of_text false (contents_additions enabled)
+        (headings_of_text None (contents_additions enabled)
         (file_source enabled (file_view file.entry)))) }
     ensures refused { IfErr result (λ fault. fault ≡ Fault.Memory) }
 {
     let syntax = Syntax::full(enabled.options);
     let text = without_mark(file.text);
     let additions = contents_additions(enabled);
-    let headings = headings_source(alloc, text, syntax, additions, false)?;
+    let headings = headings_source(alloc, text, syntax, additions, None)?;
     list_in(alloc, link_name(file), headings.as_slice())
 }
 
-/// Returns whether the events of a file are made safe.
-fn is_safe(format: Format) -> bool
-    ensures { result ≡ is_safe format }
+/// Returns the rules by which the events of a file are made safe, if they are.
+fn safe_rules(format: Format) -> Option<SafeRules<'static>>
+    ensures { option_map rules_view result ≡ safe_rules format }
 {
-    matches!(format, Format::SafeHtml)
+    match format {
+        Format::SafeHtml => Some(SafeRules::new()),
+        _ => None,
+    }
 }
 
 /// Returns the headings of a file as its HTML shows them.
@@ -130,7 +136,7 @@ pub(crate) fn headings_of_file(
 {
     let syntax = Syntax::full(enabled.options);
     let text = without_mark(file.text);
-    let safe = is_safe(format);
+    let safe = safe_rules(format);
     if !enabled.heading_ids || !file.several {
         return headings_source(alloc, text, syntax, line_additions(enabled), safe);
     }

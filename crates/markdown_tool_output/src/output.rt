@@ -2,9 +2,9 @@
 ghost use Rattle.std.specs.Prelude.{◌≡◌, ◌++◌, IfErr, IfOk, OnOk, map, string_bytes};
 ghost use Rattle.markdown_additions.specs.Written.{IsFaultOfWritingText, written_of_text};
 ghost use Rattle.markdown_tool_output.specs.Files.{file_view};
-ghost use Rattle.markdown_tool_output.specs.Outputs.{IsFaultOfFile, IsFaultOfFiles, IsFaultOfOutput, file_line};
-ghost use Rattle.markdown_tool_output.specs.Outputs.{events_of_file, file_source, html_additions, line_additions, named_line};
-ghost use Rattle.markdown_tool_output.specs.Outputs.{output_of, output_of_file, outputs_of};
+ghost use Rattle.markdown_tool_output.specs.Outputs.{IsFaultOfFile, IsFaultOfFiles, IsFaultOfOutput, IsFaultOfSafeFile};
+ghost use Rattle.markdown_tool_output.specs.Outputs.{events_of_file, file_line, file_source, html_additions, line_additions};
+ghost use Rattle.markdown_tool_output.specs.Outputs.{named_line, output_of, output_of_file, outputs_of, safe_html_of_file};
 
 use crate::additions::line_additions;
 use crate::file::{File, file_prefix, files_of};
@@ -16,21 +16,22 @@ use markdown_additions::{Additions, Form, Ids, placed_lines_source, written_sour
 use markdown_base::fault::Fault;
 use markdown_base::syntax::Syntax;
 use markdown_json::{Piece, push_pieces};
+use markdown_safe::SafeRules;
 use markdown_tool_command::extensions::Enabled;
 use markdown_tool_command::{Format, Request};
 use std::alloc::{AllocError, Global};
 
 /// Returns the HTML of a file, safe or not.
-fn html_of_file(
+fn html_of_file<'f>(
     alloc: Global,
-    form: Form,
+    form: Form<'f>,
     enabled: Enabled,
-    file: File<'_>,
+    file: File<'f>,
 ) -> Result<String, Fault>
     ensures html { let f = file_view file.entry in IfOk result (λ html. string_bytes html
-        ≡ written_of_text form (html_additions enabled f) (file_source enabled f)) }
+        ≡ written_of_text form.entry (html_additions enabled f) (file_source enabled f)) }
     ensures faults { let f = file_view file.entry in IfErr result
-        (IsFaultOfWritingText form (html_additions enabled f) (file_source enabled f)) }
+        (IsFaultOfWritingText form.entry (html_additions enabled f) (file_source enabled f)) }
 {
     let syntax = Syntax::full(enabled.options);
     let text = without_mark(file.text);
@@ -43,6 +44,16 @@ fn html_of_file(
         ids: Ids::Prefixed(prefix.as_str()),
     };
     written_source(alloc, text, syntax, additions, form)
+}
+
+/// Returns the safe HTML of a file, by the rules of a caller who chooses nothing.
+fn safe_html_of_file(alloc: Global, enabled: Enabled, file: File<'_>) -> Result<String, Fault>
+    ensures html { IfOk result (λ html.
+        string_bytes html ≡ safe_html_of_file enabled (file_view file.entry)) }
+    ensures faults { IfErr result (IsFaultOfSafeFile enabled (file_view file.entry)) }
+{
+    let rules = SafeRules::new();
+    html_of_file(alloc, Form::SafeHtml(rules), enabled, file)
 }
 
 /// Returns the lines of the events of a file, with the places of their ranges if `positions` is set.
@@ -81,7 +92,7 @@ fn output_of_file(
 {
     match format {
         Format::Html => html_of_file(alloc, Form::Html, enabled, file),
-        Format::SafeHtml => html_of_file(alloc, Form::SafeHtml, enabled, file),
+        Format::SafeHtml => safe_html_of_file(alloc, enabled, file),
         Format::Events => events_of_file(alloc, positions, enabled, file),
         Format::Outline => outline_of_file(alloc, positions, enabled, file),
         Format::Links => links_of_file(alloc, positions, enabled, file),
