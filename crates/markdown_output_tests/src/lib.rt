@@ -23,6 +23,8 @@ mod outline_lines;
 #[cfg(test)]
 mod outlines;
 #[cfg(test)]
+mod page_parts;
+#[cfg(test)]
 mod parser;
 #[cfg(test)]
 mod program;
@@ -34,6 +36,10 @@ mod runs;
 mod safe;
 #[cfg(test)]
 mod safe_ids;
+#[cfg(test)]
+mod safe_rules;
+#[cfg(test)]
+mod safe_texts;
 #[cfg(test)]
 mod signs;
 #[cfg(test)]

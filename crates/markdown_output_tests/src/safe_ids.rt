@@ -1,10 +1,11 @@
 //! The events of a text with ids of its headings, made safe.
+use crate::safe::rules_of;
 use markdown_base::options::Options;
 use markdown_blocks::Blocks;
 use markdown_heading_ids::{HeadingIds, Taken};
 use markdown_inline::walk::Parser;
 use markdown_json::push_json;
-use markdown_safe::SafeWithOffset;
+use markdown_safe::{Images, SafeRules, SafeWithOffset};
 use markdown_test_helpers::rows::gives;
 use markdown_test_parsers::faults::or_fail;
 use std::alloc::Global;
@@ -70,4 +71,46 @@ fn ids_and_links_to_them(rt: HostRuntime) -> Result<(), Fail> {
     let options = Options::ENABLE_HEADING_ATTRIBUTES | Options::ENABLE_FOOTNOTES;
     let lines = safe_lines(rt.alloc(), TEXT, options)?;
     gives("events", lines.as_str(), EVENTS)
+}
+
+/// A heading, a link to it, a comment, and a link in a link.
+const MARKUP: &str = "# a\n\n[b](#a) <!-- c --> [d <ee:f>](g)\n";
+
+/// Each event has the range that it had, also where nothing is left of it.
+const MARKUP_EVENTS: &str =
+    "[{\"Start\":{\"Heading\":{\"level\":\"H1\",\"id\":\"user-content-17-a\",\"classes\":[],\"attrs\":[]}}},{\"start\":0,\"end\":4}]\n\
+    [{\"Text\":\"a\"},{\"start\":2,\"end\":3}]\n\
+    [{\"End\":{\"Heading\":\"H1\"}},{\"start\":0,\"end\":4}]\n\
+    [{\"Start\":\"Paragraph\"},{\"start\":5,\"end\":38}]\n\
+    [{\"Start\":{\"Link\":{\"link_type\":\"Inline\",\"dest_url\":\"#user-content-17-a\",\"title\":\"\",\"id\":\"\"}}},{\"start\":5,\"end\":12}]\n\
+    [{\"Text\":\"b\"},{\"start\":6,\"end\":7}]\n\
+    [{\"End\":\"Link\"},{\"start\":5,\"end\":12}]\n\
+    [{\"Text\":\" \"},{\"start\":12,\"end\":13}]\n\
+    [{\"InlineHtml\":\"\"},{\"start\":13,\"end\":23}]\n\
+    [{\"Text\":\" \"},{\"start\":23,\"end\":24}]\n\
+    [{\"Start\":{\"Link\":{\"link_type\":\"Inline\",\"dest_url\":\"g\",\"title\":\"\",\"id\":\"\"}}},{\"start\":24,\"end\":37}]\n\
+    [{\"Text\":\"d \"},{\"start\":25,\"end\":27}]\n\
+    [{\"Text\":\"\"},{\"start\":27,\"end\":33}]\n\
+    [{\"Text\":\"ee:f\"},{\"start\":28,\"end\":32}]\n\
+    [{\"Text\":\"\"},{\"start\":27,\"end\":33}]\n\
+    [{\"End\":\"Link\"},{\"start\":24,\"end\":37}]\n\
+    [{\"End\":\"Paragraph\"},{\"start\":5,\"end\":38}]\n";
+
+/// Returns the same lines, by these rules.
+fn lines_by(alloc: Global, text: &str, rules: SafeRules<'static>) -> Result<String, Fail> {
+    let blocks = or_fail(Blocks::of_extended(alloc, text, Options::empty()))?;
+    let taken = or_fail(Taken::of_blocks(alloc, &blocks))?;
+    let parser: Parser<'_> = or_fail(Parser::from_blocks(alloc, blocks, None))?;
+    let with_ids = HeadingIds::new(alloc, taken, parser.into_offset_iter());
+    let mut lines = String::new(alloc);
+    let safe = SafeWithOffset::with_rules(alloc, with_ids, rules);
+    push_json(alloc, &mut lines, safe)?;
+    Ok(lines)
+}
+
+#[test]
+fn events_by_rules(rt: HostRuntime) -> Result<(), Fail> {
+    let rules = rules_of("17-", Images::Shown, true);
+    let lines = lines_by(rt.alloc(), MARKUP, rules)?;
+    gives("events", lines.as_str(), MARKUP_EVENTS)
 }
