@@ -97,10 +97,12 @@ static void test_bare_addresses(void) {
     const struct calls html = all_calls[0], safe = all_calls[1], json = all_calls[2], outline = all_calls[3];
     const char *text = "www.a.b x@y.z", *none = "<p>www.a.b x@y.z</p>\n";
     const char *links = "<p><a href=\"http://www.a.b\">www.a.b</a> <a href=\"mailto:x@y.z\">x@y.z</a></p>\n";
+    const char *safe_links = "<p><a href=\"http://www.a.b\" rel=\"nofollow ugc noopener\">www.a.b</a> "
+                             "<a href=\"mailto:x@y.z\" rel=\"nofollow ugc noopener\">x@y.z</a></p>\n";
     test_result(&html, text, MARKDOWN_AUTOLINKS, links);
     test_result(&html, text, MARKDOWN_DEFAULT, none);
     test_result(&html, text, MARKDOWN_PROFILE | MARKDOWN_AUTOLINKS, none);
-    test_result(&safe, text, MARKDOWN_GITHUB, links);
+    test_result(&safe, text, MARKDOWN_GITHUB, safe_links);
     test_result(&html, "~a~ ^b^ $c$ www.d.e", MARKDOWN_ALL,
                 "<p><sub>a</sub> <sup>b</sup> <span class=\"math math-inline\">c</span> "
                 "<a href=\"http://www.d.e\">www.d.e</a></p>\n");

@@ -21,7 +21,8 @@ class Html(unittest.TestCase):
         self.assertEqual(provedown.html("&" * 10000), "<p>" + "&amp;" * 10000 + "</p>\n")
 
     def test_all_of_commonmark_is_read(self):
-        self.assertEqual(provedown.html("<a@b.c> &copy;"), '<p><a href="mailto:a@b.c">a@b.c</a> ©</p>\n')
+        link = '<p><a href="mailto:a@b.c">a@b.c</a> ©</p>\n'
+        self.assertEqual(provedown.html("<a@b.c> &copy;", safe=False), link)
 
     def test_blocks_of_extensions(self):
         table = "<table><thead><tr><th>a</th></tr></thead><tbody>\n<tr><td>b</td></tr>\n</tbody></table>\n"
@@ -36,7 +37,7 @@ class Html(unittest.TestCase):
         self.assertEqual(trusted, '<h1 id="b" onclick="c">a</h1>\n')
 
     def test_bare_addresses(self):
-        link = '<p><a href="http://a.b">http://a.b</a></p>\n'
+        link = '<p><a href="http://a.b" rel="nofollow ugc noopener">http://a.b</a></p>\n'
         self.assertEqual(provedown.html("http://a.b", ["autolinks"]), link)
         self.assertEqual(provedown.html("http://a.b", provedown.GITHUB), link)
         self.assertEqual(provedown.html("http://a.b"), "<p>http://a.b</p>\n")
@@ -61,6 +62,8 @@ class Html(unittest.TestCase):
         self.assertEqual(provedown.html(text), safe)
         trusted = '<p><b>c</b> <a href="javascript:x">l</a> <a href="/y">m</a></p>\n'
         self.assertEqual(provedown.html(text, safe=False), trusted)
+        self.assertEqual(provedown.html("a <!-- b --> c<BR>d"), "<p>a  c<br />\nd</p>\n")
+        self.assertEqual(provedown.html("[a <bb:c> d](e)"), '<p><a href="e">a bb:c d</a></p>\n')
 
 
 class Readings(unittest.TestCase):

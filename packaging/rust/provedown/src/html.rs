@@ -57,8 +57,9 @@ pub fn try_push_html<'a, I: Iterator<Item = Event<'a>>>(s: &mut String, iter: I)
     Ok(())
 }
 
-/// Appends the safe HTML of events to a string: HTML in events is shown as text, even what the caller put there, and
-/// destinations have one of the schemes `http`, `https`, `mailto` and `tel`, those of images `http` or `https`, or none.
+/// Appends the safe HTML of events to a string, as [`to_safe_html`](crate::to_safe_html) has it: HTML in events is shown as
+/// text, even what the caller put there, and destinations have one of the schemes `http`, `https`, `mailto` and `tel`, those
+/// of images `http` or `https`, or none.
 ///
 /// ```
 /// use provedown::{Parser, html};

@@ -6,8 +6,9 @@ pub fn to_html(text: &str, extensions: Extensions) -> Result<String, Error> {
     library::of_text(sys::markdown_html_alloc, text, extensions.bits())
 }
 
-/// Returns the safe HTML of untrusted input: raw HTML is shown as text, and destinations have one of the schemes
-/// `http`, `https`, `mailto` and `tel`, those of images `http` or `https`, or none.
+/// Returns the safe HTML of untrusted input: raw HTML is shown as text, but for comments, which are dropped, and `<br>`,
+/// `<wbr>` and `<hr>`; and destinations have one of the schemes `http`, `https`, `mailto` and `tel`, those of images `http`
+/// or `https`, or none. Links to other sites have `rel="nofollow ugc noopener"`, and no link is in a link.
 pub fn to_safe_html(text: &str, extensions: Extensions) -> Result<String, Error> {
     library::of_text(sys::markdown_safe_html_alloc, text, extensions.bits())
 }
@@ -48,7 +49,9 @@ mod tests {
     fn bare_addresses() {
         let links = "<p><a href=\"http://www.a.b\">www.a.b</a> <a href=\"mailto:x@y.z\">x@y.z</a></p>\n";
         assert_eq!(to_html("www.a.b x@y.z", Extensions::AUTOLINKS).as_deref(), Ok(links));
-        assert_eq!(to_safe_html("www.a.b x@y.z", Extensions::GITHUB).as_deref(), Ok(links));
+        let safe = "<p><a href=\"http://www.a.b\" rel=\"nofollow ugc noopener\">www.a.b</a> <a href=\"mailto:x@y.z\" \
+                    rel=\"nofollow ugc noopener\">x@y.z</a></p>\n";
+        assert_eq!(to_safe_html("www.a.b x@y.z", Extensions::GITHUB).as_deref(), Ok(safe));
         assert_eq!(to_html("www.a.b x@y.z", Extensions::NONE).as_deref(), Ok("<p>www.a.b x@y.z</p>\n"));
     }
 
