@@ -1,13 +1,15 @@
 """Texts that attack, each rendered as untrusted input and checked: `safe_attack.py SHARED_OBJECT [COUNT]`.
 
 SHARED_OBJECT is made as `.ci/callers` makes it. COUNT texts (20,000 by default) are made of shapes (links, images,
-definitions, titles, info strings, footnotes, wikilinks, math, raw HTML) with payloads (schemes in all spellings, tags,
+definitions, titles, info strings, footnotes, wikilinks, math, raw HTML with comments and void tags) with payloads (schemes in all spellings, tags,
 attributes, ends of values), from a fixed seed. Each is rendered by both entries, with no extension, with all, and with all
 but old footnotes, which take the place of the others. The HTML is checked by Python's HTML parser, by a grammar, and by the
-URL standard's reading of schemes; all three are written apart from the definitions of the library. Where Python has
-`html5lib`, which builds trees as browsers do, a page with the HTML in an element is read too: nothing of the HTML stands
-outside that element. Prints each text that comes through, and how many do, also by `markdown_html_alloc`; exits with 1 where
-one comes through, or where none does by `markdown_html_alloc`, since then the texts attack nothing.
+URL standard's reading of schemes; all three are written apart from the definitions of the library. They also find a link in a
+link, a heading in a heading, a part of a list or a table that stands elsewhere, and a link to another site without its `rel`.
+Where Python has `html5lib`, which builds trees as browsers do, a page with the HTML in an element is read too: nothing of the
+HTML stands outside that element, and its elements stand in each other as its tags say. Prints each text that comes through,
+and how many do, also by `markdown_html_alloc`; exits with 1 where one comes through, or where none does by
+`markdown_html_alloc`, since then the texts attack nothing.
 """
 import ctypes
 import random
@@ -21,17 +23,22 @@ except ImportError:
     html5lib = None
 
 ATTRIBUTES = {
-    "a": {"href", "title"}, "img": {"src", "alt", "title"}, "code": {"class"}, "ol": {"start"}, "th": {"style"},
-    "td": {"style"}, "sup": {"class"}, "div": {"class", "id"}, "span": {"class"}, "blockquote": {"class"},
+    "a": {"href", "title", "rel"}, "img": {"src", "alt", "title"}, "code": {"class"}, "ol": {"start"}, "th": {"align"},
+    "td": {"align"}, "sup": {"class"}, "div": {"class", "id"}, "span": {"class"}, "blockquote": {"class"},
     "input": {"disabled", "type", "checked"}, **{f"h{level}": {"id"} for level in range(1, 7)},
 }
-VOID = {"img", "br", "hr", "input"}
+VOID = {"img", "br", "hr", "wbr", "input"}
 TAGS = VOID | set(ATTRIBUTES) | set("p pre ul li dl dt dd table thead tbody tr em strong del sub".split())
+HEADINGS = {f"h{level}" for level in range(1, 7)}
+# what elements of a kind stand in directly, and nothing else does
+HOLDERS = {"li": {"ul", "ol"}, "thead": {"table"}, "tbody": {"table"}, "tr": {"thead", "tbody"}, "th": {"tr"}, "td": {"tr"}}
+ALL_HOLDERS = set().union(*HOLDERS.values())
 CLASSES = {"footnote-reference", "footnote-definition", "footnote-definition-label", "math math-inline", "math math-display"}
 CLASSES |= {f"markdown-alert-{kind}" for kind in ("note", "tip", "important", "warning", "caution")}
 VALUE = r'(?:[^&<>"]|&(?:amp|lt|gt|quot|#x27);)*'
 GRAMMAR = re.compile(rf'(?:[^&<>]|&(?:amp|lt|gt|quot|#x27);|<[a-z0-9]+(?: [a-z]+="{VALUE}")*(?: ?/)?>|</[a-z0-9]+>)*')
-ALL_EXTENSIONS = sum(1 << bit for bit in range(1, 16) if bit != 12)
+# (the last two are bare addresses and ids of headings, which the port's profile passes over)
+ALL_EXTENSIONS = sum(1 << bit for bit in (*range(1, 12), 13, 14, 15, 27, 28))
 OLD_FOOTNOTES = 1 << 9
 PROFILE = 1 << 29
 READINGS = {
@@ -72,13 +79,26 @@ def has_no_scheme_but(schemes, url):
     return not scheme or scheme[1].lower() in schemes
 
 
+def leaves_site(url):
+    """Whether a browser finds a scheme or a host in a URL: as the URL standard does, where a backslash is a slash."""
+    url = re.sub("[\t\n\r]", "", url.strip("".join(map(chr, range(33))))).replace("\\", "/")
+    return bool(re.match(r"[A-Za-z][A-Za-z0-9+.-]*:|//", url))
+
+
+def may_stand(tag, around):
+    """Whether a browser leaves an element where these are open, the innermost last."""
+    kind = HEADINGS if tag in HEADINGS else {tag} & {"a"}
+    parent = around[-1] if around else None
+    return not kind & set(around) and (parent in HOLDERS[tag] if tag in HOLDERS else parent not in ALL_HOLDERS)
+
+
 def is_safe(name, value):
     return {
         "href": lambda value: has_no_scheme_but({"http", "https", "mailto", "tel"}, value),
         "src": lambda value: has_no_scheme_but({"http", "https"}, value), "alt": lambda value: True, "title": lambda value: True,
         "class": lambda value: value in CLASSES or re.fullmatch(r"language-[^ \t\n\f\r]*", value),
         "id": lambda value: value.startswith("user-content-"), "start": str.isdigit,
-        "style": lambda value: re.fullmatch("text-align: (left|center|right)", value),
+        "align": lambda value: value in ("left", "center", "right"), "rel": lambda value: value == "nofollow ugc noopener",
         "type": lambda value: value == "checkbox", "disabled": lambda value: value == "", "checked": lambda value: value == "",
     }[name](value)
 
@@ -88,16 +108,22 @@ class Reader(HTMLParser):
 
     def __init__(self):
         super().__init__(convert_charrefs=True)
-        self.found, self.open = [], []
+        # what was found; the elements that are open; and each element with how deep it stands
+        self.found, self.open, self.elements = [], [], []
 
     def handle_starttag(self, tag, attributes):
+        self.elements.append((tag, len(self.open)))
         names = [name for name, _ in attributes]
         if tag not in TAGS or len(set(names)) < len(names):
             self.found.append(("tag", tag, names))
         for name, value in attributes:
             if name not in ATTRIBUTES.get(tag, ()) or value is None or not is_safe(name, value):
                 self.found.append(("attribute", tag, name, value))
+        if tag == "a" and leaves_site(dict(attributes).get("href") or "") != ("rel" in names):
+            self.found.append(("rel", attributes))
         if tag not in VOID:
+            if not may_stand(tag, self.open):
+                self.found.append(("place", tag, *self.open))
             self.open.append(tag)
         elif tag == "input" and not {"disabled", "type"} <= set(names):
             self.found.append(("input", names))
@@ -117,13 +143,20 @@ class Reader(HTMLParser):
     handle_decl = handle_pi = unknown_decl = handle_comment
 
 
-def leaves_its_element(html):
-    """Whether a part of the HTML stands outside the element that it is put into, or what the page has after it there stands
-    elsewhere, as a browser reads the page."""
+def elements_of(node, depth=0):
+    """The elements in an element, in the order of their start tags, each with how deep it stands."""
+    return [it for child in node for it in ((child.tag, depth), *elements_of(child, depth + 1))]
+
+
+def moved_by_browsers(html, elements):
+    """What of the HTML stands outside the element that it is put into, or of its elements elsewhere than its tags say, as a
+    browser reads the page."""
     page = html5lib.parse(f"<!DOCTYPE html><body><div>{html}<u></u></div><i></i>", namespaceHTMLElements=False)
     body = page.find("body")
     is_whole = [(it.tag, it.tail) for it in body] == [("div", None), ("i", None)] and not body.text and not len(body[1])
-    return not is_whole or body[0].find("u") is None
+    if not is_whole or body[0].find("u") is None:
+        return [("leaves its element",)]
+    return [] if elements_of(body[0]) == [*elements, ("u", 0)] else [("other elements",)]
 
 
 def unsafe_parts(html):
@@ -131,8 +164,8 @@ def unsafe_parts(html):
     reader.feed(html)
     reader.close()
     found = reader.found + [("left open", tag) for tag in reader.open]
-    if html5lib and leaves_its_element(html):
-        found.append(("leaves its element",))
+    if html5lib:
+        found += moved_by_browsers(html, reader.elements)
     return found if GRAMMAR.fullmatch(html) else [*found, ("grammar",)]
 
 
@@ -178,7 +211,13 @@ def shaped(payload, at):
         f"> {payload}", f"- {payload}\n- [x] {end}", f"1234567. {payload}", f"a | b\n--|:-:\n{payload} | {end}", f"---\na: {payload}\n---\n\nb",
         f"+++\n{payload}\n+++", f"a\n: {payload}", f"> [!NOTE]\n> {payload}", f"*{payload}*_{end}_", f"![a](![b]({payload}))", f"[![a]({payload})]({scheme})",
         f"![a ![b]({payload}) c]({scheme} \"{end}\")", f"[a <{payload}> b](c)", f"[a](b)[{payload}]({scheme})", f"{payload}{end}", f"a  \n{payload}",
-        f"<div>\n{payload}\n\n*b*</div>", f"<a href=\"\n{payload}\">", f"\\{payload}", f"&{payload};", f"'{payload}' \"{end}\"", payload,
+        f"<div>\n{payload}\n\n*b*</div>", f"<a href=\"\n{payload}\">", f"a <!-- {payload} --> b", f"a <!-- {payload}\n{end} --> b",
+        f"<!-- {payload}\n{end}\n-->\n{payload}", f"<div>\n<!-- {end}\n{payload} --> {payload}\n</div>", f"<div>\n<!-- {payload}\n\n{end} -->",
+        f"> <!-- {payload}\n\n{end}", f"<!-->{payload}-->", f"a <!--->{payload} -->", f"<scr<!-- {end} -->ipt>{payload}", f"<!-{payload}\n- {end}",
+        f"a<br {payload}>b", f"<hr {payload}>", f"a<wbr\n{payload}/>b", f"<div>\n<BR {payload}/>\n<hr>{payload}\n</div>", f"a <hr> {payload}",
+        f"[a <{scheme}> b]({payload})", f"[{payload} <http://a.b> <c@d.e>](f)", f"[a http://b.c {payload}](d)", f"[![a <{scheme}> b]({payload})](c)",
+        f"[[a|b[^c] <{scheme}>]]\n\n[^c]: {payload}", f"[a[^{payload}]](b)\n\n[^{payload}]: c", f"[a <{scheme}> ![b]({payload})](//c)",
+        f"[a](//{payload})", f"[a](/\\{payload})", f"[a]( <{payload}>)", f"\\{payload}", f"&{payload};", f"'{payload}' \"{end}\"", payload,
     ]
     return at.choice(shapes)
 

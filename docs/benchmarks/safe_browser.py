@@ -8,10 +8,9 @@ sentinels, and follows each link. It tells
 - whether a sentinel has moved;
 - the elements that it has of each text, in the order of their start tags, each with how deep it stands.
 
-The elements are compared with the tags of the HTML as Python's parser reads them. A browser ends a link where another begins
-in it, so texts with such links are counted apart. Prints what comes through, and how many texts do, also by
-`markdown_html_alloc`, a page at a time; exits with 1 where one comes through, or where no page does by
-`markdown_html_alloc`, since then the texts attack nothing. `CHROMIUM` names the browser.
+The elements are compared with the tags of the HTML as Python's parser reads them: they are the same, without an exception.
+Prints what comes through, and how many texts do, also by `markdown_html_alloc`, a page at a time; exits with 1 where one comes
+through, or where no page does by `markdown_html_alloc`, since then the texts attack nothing. `CHROMIUM` names the browser.
 """
 import html
 import json
@@ -29,7 +28,7 @@ OPTIONS = ALL_EXTENSIONS & ~OLD_FOOTNOTES
 # what runs before the texts: the policy, whose reports are kept
 BEFORE = """<!DOCTYPE html><html><head><meta charset="utf-8">
 <meta http-equiv="Content-Security-Policy"
-    content="default-src 'none'; img-src *; style-src-attr 'unsafe-inline'; script-src 'nonce-page'">
+    content="default-src 'none'; img-src *; script-src 'nonce-page'">
 <script nonce="page">
 const reports = [];
 addEventListener("securitypolicyviolation", it => reports.push(it.violatedDirective + " " + it.blockedURI));
@@ -61,14 +60,13 @@ addEventListener("load", () => {
 
 
 class Tags(HTMLParser):
-    """The start tags of HTML with how deep they stand, and whether a link is in a link."""
+    """The start tags of HTML with how deep they stand."""
 
     def __init__(self):
         super().__init__(convert_charrefs=True)
-        self.found, self.open, self.nested_links = [], [], False
+        self.found, self.open = [], []
 
     def handle_starttag(self, tag, attributes):
-        self.nested_links |= tag == "a" and "a" in self.open
         self.found.append([tag, len(self.open)])
         if tag not in VOID:
             self.open.append(tag)
@@ -85,7 +83,7 @@ def tags_of(rendered):
     reader = Tags()
     reader.feed(rendered)
     reader.close()
-    return reader
+    return reader.found
 
 
 def read_by_browser(rendered, folder):
@@ -111,7 +109,7 @@ def is_calm(answer, count):
 def main(path, count="8000"):
     library = Library(path)
     given = list(texts(int(count)))
-    through = through_raw = nested = 0
+    through = through_raw = 0
     with tempfile.TemporaryDirectory() as folder:
         for at in range(0, len(given), PER_PAGE):
             some = given[at:at + PER_PAGE]
@@ -123,14 +121,11 @@ def main(path, count="8000"):
                 through += 1
                 print(f"texts {at} to {at + len(some) - 1}: {answer and answer['reports']!r}", flush=True)
             for text, made, (stays, elements) in zip(some, rendered, answer["told"] if answer else []):
-                tags = tags_of(made)
-                nested += tags.nested_links
-                if not stays or not tags.nested_links and elements != tags.found:
+                if not stays or elements != tags_of(made):
                     through += 1
                     print(f"{text!r} {made!r} {stays} {elements}", flush=True)
     pages = -(-len(given) // PER_PAGE)
-    print(f"of {len(given)} texts {through} come through, and of {pages} pages by markdown_html_alloc {through_raw}; "
-          f"in {nested} texts a link begins in a link")
+    print(f"of {len(given)} texts {through} come through, and of {pages} pages by markdown_html_alloc {through_raw}")
     sys.exit(bool(through) or not through_raw)
 
 
