@@ -23,7 +23,7 @@ use Rattle.markdown_safe.specs.SafeEvents.{safe_event}
 use Rattle.markdown_safe.specs.SafeHtml.{is_listed}
 use Rattle.markdown_safe.specs.LinksApart.{closes_link, keeps_links_apart, links_are_apart}
 use Rattle.markdown_event_laws.specs.NestedEvents.{ends_rows_or_cells, keeps_table_parts_alone, table_parts_are_alone}
-use Rattle.markdown_safe.specs.PlacedTree.{is_directly_in, may_stand, IsPlacedTree}
+use Rattle.markdown_safe.specs.PlacedTree.{heading_elements, is_directly_in, link_elements, may_stand, IsPlacedTree}
 use Rattle.markdown_safe.proofs.SafeHtmlLemmas.{Turn}
 use Rattle.markdown_safe.proofs.SafeTagsLemmas.{event_turns, level_name, cell_name}
 use Rattle.markdown_safe.proofs.SafeEventsLemmas.{turns_by_image, turns_before}
@@ -41,13 +41,7 @@ kind_is_open kind ends same bare (e ∷ awaited) =
     list_any-append (is_listed kind) (own bare _ e) (elements _ awaited)
     ∙ rw (same bare _ e, kind_is_open kind ends same (ends_head e) awaited) refl
 
-abbrev link_kind : List (List ℕ)
-link_kind = codes "a" ∷ []
-
-abbrev heading_kind : List (List ℕ)
-heading_kind = codes "h1" ∷ codes "h2" ∷ codes "h3" ∷ codes "h4" ∷ codes "h5" ∷ codes "h6" ∷ []
-
-own_link : (bare head : Bool) (e : TagEnd) → list_any (is_listed link_kind) (own bare head e) ≡ closes_link e
+own_link : (bare head : Bool) (e : TagEnd) → list_any (is_listed link_elements) (own bare head e) ≡ closes_link e
 own_link bare head (tag_ends.Heading level.H1) = refl
 own_link bare head (tag_ends.Heading level.H2) = refl
 own_link bare head (tag_ends.Heading level.H3) = refl
@@ -63,7 +57,7 @@ own_link bare false tag_ends.TableCell = refl
 own_link bare head e = refl
 
 own_heading : (bare head : Bool) (e : TagEnd)
-    → list_any (is_listed heading_kind) (own bare head e) ≡ closes_heading e
+    → list_any (is_listed heading_elements) (own bare head e) ≡ closes_heading e
 own_heading bare head (tag_ends.Heading level.H1) = refl
 own_heading bare head (tag_ends.Heading level.H2) = refl
 own_heading bare head (tag_ends.Heading level.H3) = refl
@@ -140,7 +134,7 @@ IsPlacedAt e head bare awaited = PlacedFrom (elements bare awaited) (event_turns
 
 -- a heading in no heading, and a link in no link
 heading_stands : (l : HeadingLevel) (around : List (List ℕ)) → IsPlain around
-    → list_any (is_listed heading_kind) around ≡ false → may_stand (level_name l) around ≡ true
+    → list_any (is_listed heading_elements) around ≡ false → may_stand (level_name l) around ≡ true
 heading_stands level.H1 around p h = rw (h, p.in_list, p.in_table, p.in_part, p.in_row) refl
 heading_stands level.H2 around p h = rw (h, p.in_list, p.in_table, p.in_part, p.in_row) refl
 heading_stands level.H3 around p h = rw (h, p.in_list, p.in_table, p.in_part, p.in_row) refl
@@ -148,7 +142,7 @@ heading_stands level.H4 around p h = rw (h, p.in_list, p.in_table, p.in_part, p.
 heading_stands level.H5 around p h = rw (h, p.in_list, p.in_table, p.in_part, p.in_row) refl
 heading_stands level.H6 around p h = rw (h, p.in_list, p.in_table, p.in_part, p.in_row) refl
 
-link_stands : (around : List (List ℕ)) → IsPlain around → list_any (is_listed link_kind) around ≡ false
+link_stands : (around : List (List ℕ)) → IsPlain around → list_any (is_listed link_elements) around ≡ false
     → may_stand (codes "a") around ≡ true
 link_stands around p h = rw (h, p.in_list, p.in_table, p.in_part, p.in_row) refl
 
@@ -191,12 +185,12 @@ start_placed (event.image i) head bare awaited s k c = tt
 start_placed (event.metadata_block kind) head bare awaited s k c = tt
 start_placed (event.heading h) head false awaited s k c = (
   heading_stands h.level (elements false awaited) (is_plain awaited (k.items, k.alone) c)
-      (kind_is_open heading_kind closes_heading own_heading false awaited ∙ not_true _ k.headings),
+      (kind_is_open heading_elements closes_heading own_heading false awaited ∙ not_true _ k.headings),
   tt,
 )
 start_placed (event.link l) head false awaited s k c = (
   link_stands (elements false awaited) (is_plain awaited (k.items, k.alone) c)
-      (kind_is_open link_kind closes_link own_link false awaited ∙ not_true _ k.links),
+      (kind_is_open link_elements closes_link own_link false awaited ∙ not_true _ k.links),
   tt,
 )
 start_placed (event.list None) head false awaited s k c =
@@ -240,7 +234,7 @@ event_placed (start tag) head bare awaited s k is c = start_placed tag head bare
 event_placed (end e) head bare awaited s k is c = end_placed e head bare awaited s k is
 event_placed (event.footnote_reference name) head false awaited s k is c =
     let p = is_plain awaited (k.items, k.alone) c in
-    let no_link = kind_is_open link_kind closes_link own_link false awaited ∙ not_true _ k.links in
+    let no_link = kind_is_open link_elements closes_link own_link false awaited ∙ not_true _ k.links in
     (rw (p.in_list, p.in_table, p.in_part, p.in_row) refl, (rw no_link refl, tt))
 event_placed (event.code t) head false awaited s k is c =
     let p = is_plain awaited (k.items, k.alone) c in

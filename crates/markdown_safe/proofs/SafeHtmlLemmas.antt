@@ -14,7 +14,8 @@ use Rattle.std.proofs.lemmas.Bool.{and_parts, cases_eq, ne_eqb}
 use Rattle.percent_encoding.specs.Percent.{percent_encode_byte}
 use Rattle.markdown_out.specs.Escapes.{text_byte, attribute_byte, destination_byte, text_escaped, attribute_escaped}
 use Rattle.markdown_out.specs.Escapes.{destination_escaped, is_kept_byte}
-use Rattle.markdown_safe.specs.SafeUrl.{before_colon, is_dropped_byte, is_safe_url, may_be_in_scheme}
+use Rattle.markdown_out.specs.TagHtml.{may_be_in_scheme}
+use Rattle.markdown_safe.specs.SafeUrl.{before_colon, is_dropped_byte, is_safe_url}
 use Rattle.markdown_safe.specs.SafeHtml.{Character, by_itself, by_reference, character_bytes, meant, is_in_text}
 use Rattle.markdown_safe.specs.SafeHtml.{is_in_value}
 use Rattle.markdown_safe.specs.SafeHtml.{HtmlPiece, character, start_tag, end_tag, void_tag, bytes_of_piece}

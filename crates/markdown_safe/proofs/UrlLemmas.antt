@@ -10,7 +10,8 @@ use Rattle.std.specs.Char.{is_ascii_whitespace}
 use Rattle.std.proofs.lemmas.List.{take_all}
 use Rattle.std.proofs.lemmas.List.Sums.{position_or_len_is}
 use Rattle.markdown_safe.specs.SafeEvents.{safe_info}
-use Rattle.markdown_safe.specs.SafeUrl.{before_colon, is_dropped_byte, may_be_in_scheme}
+use Rattle.markdown_out.specs.TagHtml.{may_be_in_scheme}
+use Rattle.markdown_safe.specs.SafeUrl.{before_colon, is_dropped_byte}
 
 -- the bytes found so far, before the rest of a scheme
 abbrev pub onto : List ℕ → Option (List ℕ) → Option (List ℕ)

@@ -1,6 +1,6 @@
 -- Events without links in links: the Start and the End of a link that stands in another are empty Texts, and what it
 -- holds stays where it is. A reference to a footnote, whose HTML is a link too, is a Text there: what was written.
-use Rattle.std.specs.Prelude.{ℕ, ◌+◌, ◌-◌, ◌++◌, List, [], ◌∷◌, codes, nat_lt, if◌then◌else◌}
+use Rattle.std.specs.Prelude.{ℕ, ◌+◌, ◌-◌, ◌++◌, List, [], codes, nat_lt, if◌then◌else◌}
 use Rattle.markdown_base.specs.Event.{EventView, start, end, footnote_reference, link, text}
 use Rattle.markdown_base.specs.declared.tag.TagEnd.TheVariants as closes
 
@@ -22,12 +22,3 @@ outermost (end closes.Link) links = if nat_lt 1 links then text [] else end clos
 outermost (footnote_reference name) links =
     if nat_lt 0 links then text (written_reference name) else footnote_reference name
 outermost other links = other
-
--- these events without links in links, where so many links are open before the first
-abbrev pub outer_from : (links : ℕ) → List EventView → List EventView
-outer_from links [] = []
-outer_from links (e ∷ events) = outermost e links ∷ outer_from (links_after e links) events
-
--- events without links in links
-abbrev pub outer_links : List EventView → List EventView
-outer_links events = outer_from 0 events

@@ -7,10 +7,17 @@ use Rattle.std.specs.List.{list_all, list_any}
 use Rattle.markdown_safe.specs.HtmlTree.{HtmlTree, tree_end, tree_text, element, void_element, IsSafeTree}
 use Rattle.markdown_safe.specs.SafeHtml.{is_listed}
 
+-- the elements of links
+abbrev pub link_elements : List (List ℕ)
+link_elements = codes "a" ∷ []
+
+-- the elements of headings
+abbrev pub heading_elements : List (List ℕ)
+heading_elements = codes "h1" ∷ codes "h2" ∷ codes "h3" ∷ codes "h4" ∷ codes "h5" ∷ codes "h6" ∷ []
+
 -- the kinds of elements that stand in none of their own kind, however deep
 abbrev pub kinds_apart : List (List (List ℕ))
-kinds_apart = (codes "a" ∷ [])
-    ∷ (codes "h1" ∷ codes "h2" ∷ codes "h3" ∷ codes "h4" ∷ codes "h5" ∷ codes "h6" ∷ []) ∷ []
+kinds_apart = link_elements ∷ heading_elements ∷ []
 
 -- the parts of lists and tables, each with the elements that hold it
 abbrev pub parts_and_holders : List (List (List ℕ) × List (List ℕ))

@@ -1,11 +1,12 @@
 -- Safe URLs: those without a scheme, and those with a scheme that runs no script.
 use Rattle.std.specs.Prelude.{ℕ, Bool, true, false, not, List, [], ◌∷◌, ◌==◌, ◌||◌, codes, if◌then◌else◌, nat_lt}
 use Rattle.std.specs.Prelude.{Option, Some, None}
-use Rattle.std.specs.Char.{is_ascii_alphabetic, is_ascii_alphanumeric}
+use Rattle.std.specs.Char.{is_ascii_alphabetic}
 use Rattle.std.specs.List.{list_any}
 use Rattle.std.specs.Option.{option_map, option_map_or}
 use Rattle.std.specs.Str.{bytes_eq, str_to_ascii_lowercase}
 use Rattle.markdown_base.specs.Bytes.{colon}
+use Rattle.markdown_out.specs.TagHtml.{may_be_in_scheme}
 
 -- the schemes that a link may have
 abbrev pub link_schemes : List (List ℕ)
@@ -14,10 +15,6 @@ link_schemes = codes "http" ∷ codes "https" ∷ codes "mailto" ∷ codes "tel"
 -- the schemes that an image may have
 abbrev pub image_schemes : List (List ℕ)
 image_schemes = codes "http" ∷ codes "https" ∷ []
-
--- a scheme may have this byte: an ASCII letter or digit, or `+`, `-` or `.`
-abbrev pub may_be_in_scheme : ℕ → Bool
-may_be_in_scheme b = is_ascii_alphanumeric b || list_any (λ mark. mark == b) (codes "+-.")
 
 -- a browser drops this byte before it looks for the scheme: a space at either end, a control byte there, a tab or the
 -- end of a line anywhere. Here each space and control byte is dropped, wherever it stands: this finds each scheme that
