@@ -5,9 +5,9 @@ use Rattle.std.specs.declared.ops.Range.{Range}
 use Rattle.markdown_additions.specs.Additions.{AdditionsView, AreFirstAdded, added_events}
 use Rattle.markdown_additions.specs.GivenEvents.{GivesEvents}
 use Rattle.markdown_additions.specs.UnplacedItems.{placed_iter, unplaced_steps}
-use Rattle.markdown_additions.specs.Written.{IsFaultOfWritingText, headings_of_text, written_of_text}
+use Rattle.markdown_additions.specs.Written.{IsFaultOfWritingText, as_html, as_safe_html, headings_of_text}
+use Rattle.markdown_additions.specs.Written.{written_of_text}
 use Rattle.markdown_additions.specs.declared.unplaced.Unplaced.{Unplaced}
-use Rattle.markdown_additions.specs.declared.written.Form.TheVariants.{Html, SafeHtml}
 use Rattle.markdown_base.specs.Source.{Source}
 use Rattle.markdown_base.specs.declared.event.Event.{Event}
 use Rattle.markdown_base.specs.declared.fault.Fault.{Fault}
@@ -17,11 +17,10 @@ use Rattle.markdown_out.specs.HtmlCorrect.{StopsAtError, StopsAtErrorBy}
 use Rattle.markdown_out.specs.declared.html.rules.HtmlRules.{HtmlRules}
 use Rattle.markdown_outline.specs.Outline.{EntryView}
 use Rattle.markdown_outline.specs.OutlineRead.{IsOutlineOfAll, MeetsError}
-use Rattle.markdown_safe.specs.SafeRules.{SafeRulesView, html_rules, rules_view}
+use Rattle.markdown_safe.specs.SafeRules.{SafeRulesView, html_rules}
 use Rattle.markdown_safe.specs.SafeSource.{new_reading, placed_reading, safe_reading, safe_steps}
 use Rattle.markdown_safe.specs.declared.adapter.Safe.{Safe}
 use Rattle.markdown_safe.specs.declared.adapter.SafeWithOffset.{SafeWithOffset}
-use Rattle.markdown_safe.specs.declared.rules.SafeRules.{SafeRules}
 use Rattle.markdown_additions.proofs.WrittenLemmas.{html_faults, html_written, safe_faults, safe_written}
 use Rattle.markdown_additions.proofs.WrittenLemmas.{Safer, headings_read_safe, headings_stopped_safe}
 
@@ -37,7 +36,7 @@ module _ {S : Type 0} (steps : S → Option Item → S → Type 0) (view : Addit
   -- without ranges
   module _ (u : Unplaced S) (bare : placed_iter u ≡ events) where
     pub html_of_new : (old new : List ℕ) → old ≡ [] → IsRendered (unplaced_steps steps placed_iter) u old new
-        → new ≡ written_of_text Html view s
+        → new ≡ written_of_text as_html view s
     html_of_new old new empty r =
         html_written steps placed_iter (added_events view s) (AreFirstAdded view s) u old new empty
         (here (placed_iter u) bare) r
@@ -45,19 +44,19 @@ module _ {S : Type 0} (steps : S → Option Item → S → Type 0) (view : Addit
     pub html_faults_of_new : (old new : List ℕ) (fault : Fault)
         → StopsAtError (unplaced_steps steps placed_iter) u old new fault
         ⊎ IsOwnFault (unplaced_steps steps placed_iter) u old new fault
-        → IsFaultOfWritingText Html view s fault
+        → IsFaultOfWritingText as_html view s fault
     html_faults_of_new old new fault why =
         html_faults steps placed_iter (added_events view s) (AreFirstAdded view s) u old new fault
         (here (placed_iter u) bare) why
 
     -- and then made safe, and written by the form that the rules have
-    module _ (rules : SafeRules) (n : Safe (Unplaced S)) (safe : safe_reading n ≡ new_reading u (rules_view rules))
-        (form : HtmlRules) (by : form ≡ html_rules (rules_view rules)) where
+    module _ (rules : SafeRulesView) (n : Safe (Unplaced S)) (safe : safe_reading n ≡ new_reading u rules)
+        (form : HtmlRules) (by : form ≡ html_rules rules) where
       abbrev SafeBare : Safe (Unplaced S) → Option (Result Event Fault) → Safe (Unplaced S) → Type 0
       SafeBare = safe_steps (unplaced_steps steps placed_iter)
 
       pub safe_html_of_new : (old new : List ℕ) → old ≡ [] → IsRenderedBy form SafeBare n old new
-          → new ≡ written_of_text (SafeHtml rules) view s
+          → new ≡ written_of_text (as_safe_html rules) view s
       safe_html_of_new old new empty r =
           safe_written steps placed_iter (added_events view s) (AreFirstAdded view s) rules u n safe
           (here (placed_iter u) bare) old new empty
@@ -65,7 +64,7 @@ module _ {S : Type 0} (steps : S → Option Item → S → Type 0) (view : Addit
 
       pub safe_faults_of_new : (old new : List ℕ) (fault : Fault)
           → StopsAtErrorBy form SafeBare n old new fault ⊎ IsOwnFaultBy form SafeBare n old new fault
-          → IsFaultOfWritingText (SafeHtml rules) view s fault
+          → IsFaultOfWritingText (as_safe_html rules) view s fault
       safe_faults_of_new old new fault why =
           safe_faults steps placed_iter (added_events view s) (AreFirstAdded view s) rules u n safe
           (here (placed_iter u) bare) old new fault

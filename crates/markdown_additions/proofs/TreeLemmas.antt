@@ -10,9 +10,8 @@ use Rattle.markdown_additions.specs.Additions.{AdditionsView, IdsView, added_eve
 use Rattle.markdown_additions.specs.Additions.{adds_prefixed_ids, text_events, with_added_ids}
 use Rattle.markdown_additions.specs.TextEvents.{IsNewAdded, IsNewText, IsNewWithAddedIds, NestedEvents, ParsedEvents}
 use Rattle.markdown_additions.specs.TextEvents.{nested_events}
-use Rattle.markdown_additions.specs.Written.{bare_events, written_of_text}
+use Rattle.markdown_additions.specs.Written.{as_safe_html, bare_events, written_of_text}
 use Rattle.markdown_additions.specs.declared.events.TextEvents.{TextEvents}
-use Rattle.markdown_additions.specs.declared.written.Form.TheVariants.{SafeHtml}
 use Rattle.markdown_autolinks.specs.Addresses.{address_destination, addresses_in}
 use Rattle.markdown_autolinks.specs.LinkedEvents.{Texts, left_alone_after, texts_events, with_addresses_after}
 use Rattle.markdown_autolinks.specs.LinkedRuns.{RunTextView, address_link_type, link_over, linked_events, merged_run}
@@ -39,8 +38,7 @@ use Rattle.markdown_inline.specs.ReadingOfText.{events_of_text}
 use Rattle.markdown_outline.specs.Outline.{Ranged}
 use Rattle.markdown_safe.specs.PageParts.{is_page_part, is_part_from, may_come}
 use Rattle.markdown_safe.specs.PlacedTree.{IsPlacedTree}
-use Rattle.markdown_safe.specs.SafeRules.{rules_view}
-use Rattle.markdown_safe.specs.declared.rules.SafeRules.{SafeRules}
+use Rattle.markdown_safe.specs.SafeRules.{SafeRulesView}
 use Rattle.markdown_event_laws.specs.NestedEvents.{awaited_after, starts_table}
 use Rattle.markdown_safe.proofs.PagePartsLemmas.{is_part_by_tests}
 use Rattle.markdown_safe.proofs.SafeEventsByRulesLemmas.{page_part_is_placed}
@@ -248,8 +246,8 @@ blocks_of_new adds_ids autolinks s (Right (Left h)) new = blocks_of_text autolin
 blocks_of_new (adds_prefixed_ids prefix) autolinks s (Right (Right p)) new = blocks_of_text autolinks s _ new.0.text
 blocks_of_new view autolinks s events new = absurd new
 
-pub tree_of_new : (rules : SafeRules) (view : AdditionsView) (s : Source) (events : TextEvents)
-    → IsNewAdded view s events → IsPlacedTree (written_of_text (SafeHtml rules) view s)
+pub tree_of_new : (rules : SafeRulesView) (view : AdditionsView) (s : Source) (events : TextEvents)
+    → IsNewAdded view s events → IsPlacedTree (written_of_text (as_safe_html rules) view s)
 tree_of_new rules view s events new =
     let (blocks, of) = blocks_of_new view.ids view.autolinks s (nested_events events) new in
     let text = is_part_by_tests (map (λ (e : Placed). e.0) (events_of_text s)) (
@@ -259,7 +257,7 @@ tree_of_new rules view s events new =
       items_of_texts s blocks of,
       headings_of_texts s blocks of,
     ) in
-    page_part_is_placed (rules_view rules) (bare_events (added_events view s))
+    page_part_is_placed rules (bare_events (added_events view s))
     (part_with_added_ids view.ids (taken_in_text s) (text_events view.autolinks s)
     (part_of_text view.autolinks s
     (record { part = ap is_page_part (bare_ranged (events_of_text s)) ∙ text }))).part

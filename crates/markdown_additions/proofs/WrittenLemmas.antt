@@ -7,9 +7,8 @@ use Rattle.std.specs.List.{flat_map}
 use Rattle.std.specs.declared.ops.Range.{Range}
 use Rattle.markdown_additions.specs.GivenEvents.{GivesEvents}
 use Rattle.markdown_additions.specs.UnplacedItems.{IsUnplaced, unplaced_steps}
-use Rattle.markdown_additions.specs.Written.{BeginsTooDeep, IsFaultOfWriting, bare_events, ranged_line}
-use Rattle.markdown_additions.specs.Written.{safe_ranged, safe_ranged_from, written_of}
-use Rattle.markdown_additions.specs.declared.written.Form.TheVariants.{Html, SafeHtml, Lines}
+use Rattle.markdown_additions.specs.Written.{BeginsTooDeep, IsFaultOfWriting, as_html, as_lines, as_safe_html}
+use Rattle.markdown_additions.specs.Written.{bare_events, ranged_line, safe_ranged, safe_ranged_from, written_of}
 use Rattle.markdown_base.specs.Event.{EventView, event_view}
 use Rattle.markdown_base.specs.declared.event.Event.{Event}
 use Rattle.markdown_base.specs.declared.fault.Fault.{Fault}
@@ -26,11 +25,10 @@ use Rattle.markdown_outline.specs.Outline.{EntryView, Ranged, entries_of}
 use Rattle.markdown_outline.specs.OutlineRead.{IsOutlineOfAll, MeetsError, event_items, ranged_view}
 use Rattle.markdown_safe.specs.SafeEvents.{past_after, safe_events, safe_next}
 use Rattle.markdown_safe.specs.SafeItems.{GivesSafePlaced, IsSafeItem, IsSafePlaced, SafeReading}
-use Rattle.markdown_safe.specs.SafeRules.{SafeRulesView, html_rules, rules_view}
+use Rattle.markdown_safe.specs.SafeRules.{SafeRulesView, html_rules}
 use Rattle.markdown_safe.specs.SafeSource.{new_reading, placed_reading, safe_reading, safe_steps}
 use Rattle.markdown_safe.specs.declared.adapter.Safe.{Safe}
 use Rattle.markdown_safe.specs.declared.adapter.SafeWithOffset.{SafeWithOffset}
-use Rattle.markdown_safe.specs.declared.rules.SafeRules.{SafeRules}
 use Rattle.markdown_safe.proofs.SafeItemsLemmas.{AreAllSafe, AreFirstSafe, all_safe, first_safe}
 
 abbrev Placed : Type 0
@@ -112,14 +110,14 @@ module _ {S M : Type 0} (steps : S → Option Item → S → Type 0) (iter : M �
 module _ {S M : Type 0} (steps : S → Option Item → S → Type 0) (iter : M → S) (events : List Ranged)
     (begins : List Ranged → Type 0) where
   pub html_written : (m : M) (old new : List ℕ) → old ≡ [] → GivesEvents steps (iter m) events begins
-      → IsRendered (unplaced_steps steps iter) m old new → new ≡ written_of Html events
+      → IsRendered (unplaced_steps steps iter) m old new → new ≡ written_of as_html events
   html_written m old new empty gives r =
       let a = all_bare steps iter m r.events r.read in
       r.stands ∙ ap (λ bytes. bytes ++ html_of (map event_view r.events)) empty
       ∙ ap html_of (a.are ∙ ap bare_events (gives.whole a.read a.drains))
 
   html_deep : (m : M) (old new : List ℕ) → GivesEvents steps (iter m) events begins
-      → GoesTooDeep (unplaced_steps steps iter) m old new → BeginsTooDeep Html begins
+      → GoesTooDeep (unplaced_steps steps iter) m old new → BeginsTooDeep as_html begins
   html_deep m old new gives d =
       let f = first_bare steps iter m d.left d.events d.read in
       record {
@@ -129,7 +127,7 @@ module _ {S M : Type 0} (steps : S → Option Item → S → Type 0) (iter : M �
       }
 
   own_html : (m : M) (old new : List ℕ) (fault : Fault) → GivesEvents steps (iter m) events begins
-      → IsOwnFault (unplaced_steps steps iter) m old new fault → IsFaultOfWriting Html begins fault
+      → IsOwnFault (unplaced_steps steps iter) m old new fault → IsFaultOfWriting as_html begins fault
   own_html m old new Memory gives own = inl refl
   own_html m old new Depth gives own = inr (refl, html_deep m old new gives own)
   own_html m old new Blocks gives own = absurd own
@@ -137,7 +135,7 @@ module _ {S M : Type 0} (steps : S → Option Item → S → Type 0) (iter : M �
   pub html_faults : (m : M) (old new : List ℕ) (fault : Fault) → GivesEvents steps (iter m) events begins
       → StopsAtError (unplaced_steps steps iter) m old new fault
       ⊎ IsOwnFault (unplaced_steps steps iter) m old new fault
-      → IsFaultOfWriting Html begins fault
+      → IsFaultOfWriting as_html begins fault
   html_faults m old new fault gives (inl stop) =
       let e = error_bare steps iter m stop.left stop.events fault stop.read in
       inl (gives.memory e.read e.left fault e.steps_to)
@@ -176,32 +174,32 @@ module _ {S : Type 0} (reads : S → Option (Result Event Fault) → S → Type 
 
 -- an iterator that makes such events safe, of which nothing was read yet
 module _ {S M : Type 0} (steps : S → Option Item → S → Type 0) (iter : M → S) (events : List Ranged)
-    (begins : List Ranged → Type 0) (rules : SafeRules) (m : M) (n : Safe M)
-    (new_one : safe_reading n ≡ new_reading m (rules_view rules))
+    (begins : List Ranged → Type 0) (rules : SafeRulesView) (m : M) (n : Safe M)
+    (new_one : safe_reading n ≡ new_reading m rules)
     (gives : GivesEvents steps (iter m) events begins) where
   abbrev Bares : M → Option (Result Event Fault) → M → Type 0
   Bares = unplaced_steps steps iter
 
   pub safe_written : (old new : List ℕ) → old ≡ []
-      → IsRenderedBy (html_rules (rules_view rules)) (safe_steps Bares) n old new
-      → new ≡ written_of (SafeHtml rules) events
+      → IsRenderedBy (html_rules rules) (safe_steps Bares) n old new
+      → new ≡ written_of (as_safe_html rules) events
   safe_written old new empty r =
       let a = subst (λ (x : SafeReading M). AreAllSafe Bares safe_reading x r.events) new_one
       (all_safe Bares safe_reading n r.events r.read) in
       let b = all_bare steps iter m a.0 a.1 in
-      r.stands ∙ ap (λ bytes. bytes ++ html_by (html_rules (rules_view rules)) (map event_view r.events)) empty
-      ∙ ap (html_by (html_rules (rules_view rules)))
-      (a.2 ∙ ap (safe_events (rules_view rules)) (b.are ∙ ap bare_events (gives.whole b.read b.drains)))
+      r.stands ∙ ap (λ bytes. bytes ++ html_by (html_rules rules) (map event_view r.events)) empty
+      ∙ ap (html_by (html_rules rules))
+      (a.2 ∙ ap (safe_events rules) (b.are ∙ ap bare_events (gives.whole b.read b.drains)))
 
-  safe_deep : (old new : List ℕ) → GoesTooDeepBy (html_rules (rules_view rules)) (safe_steps Bares) n old new
-      → BeginsTooDeep (SafeHtml rules) begins
+  safe_deep : (old new : List ℕ) → GoesTooDeepBy (html_rules rules) (safe_steps Bares) n old new
+      → BeginsTooDeep (as_safe_html rules) begins
   safe_deep old new d =
       let left = (safe_reading d.left).source in
       let a = subst (λ (x : SafeReading M). AreFirstSafe Bares safe_reading x left d.events) new_one
       (first_safe Bares safe_reading n d.left d.events d.read) in
       let f = first_bare steps iter m left a.0 a.1 in
-      let are : map event_view d.events ≡ safe_events (rules_view rules) (bare_events (map ranged_view f.read)) =
-      a.2 ∙ ap (safe_events (rules_view rules)) f.are in
+      let are : map event_view d.events ≡ safe_events rules (bare_events (map ranged_view f.read)) =
+      a.2 ∙ ap (safe_events rules) f.are in
       record {
         events = map ranged_view f.read;
         begin = gives.first f.read (iter left) f.steps_to;
@@ -209,8 +207,8 @@ module _ {S M : Type 0} (steps : S → Option Item → S → Type 0) (iter : M �
       }
 
   own_safe : (old new : List ℕ) (fault : Fault)
-      → IsOwnFaultBy (html_rules (rules_view rules)) (safe_steps Bares) n old new fault
-      → IsFaultOfWriting (SafeHtml rules) begins fault
+      → IsOwnFaultBy (html_rules rules) (safe_steps Bares) n old new fault
+      → IsFaultOfWriting (as_safe_html rules) begins fault
   own_safe old new Memory own = inl refl
   own_safe old new Depth own = inr (refl, safe_deep old new own)
   own_safe old new Blocks own = absurd own
@@ -220,9 +218,9 @@ module _ {S M : Type 0} (steps : S → Option Item → S → Type 0) (iter : M �
       let b = error_bare steps iter m e.left e.events fault e.read in gives.memory b.read b.left fault b.steps_to
 
   pub safe_faults : (old new : List ℕ) (fault : Fault)
-      → StopsAtErrorBy (html_rules (rules_view rules)) (safe_steps Bares) n old new fault
-      ⊎ IsOwnFaultBy (html_rules (rules_view rules)) (safe_steps Bares) n old new fault
-      → IsFaultOfWriting (SafeHtml rules) begins fault
+      → StopsAtErrorBy (html_rules rules) (safe_steps Bares) n old new fault
+      ⊎ IsOwnFaultBy (html_rules rules) (safe_steps Bares) n old new fault
+      → IsFaultOfWriting (as_safe_html rules) begins fault
   safe_faults old new fault (inl stop) =
       inl (⊎_elim (λ is. is) (λ e. of_source fault e)
       (subst (λ (x : SafeReading M). (fault ≡ Memory) ⊎ IsOfSource Bares x.source fault) new_one
@@ -236,7 +234,7 @@ lines_seen given = sym (flat_map-map ranged_line ranged_view given)
 
 module _ {S : Type 0} (steps : S → Option Item → S → Type 0) (it : S) (events : List Ranged)
     (begins : List Ranged → Type 0) (gives : GivesEvents steps it events begins) where
-  pub lines_written : (old new : List ℕ) → old ≡ [] → json.IsWritten steps it old new → new ≡ written_of Lines events
+  pub lines_written : (old new : List ℕ) → old ≡ [] → json.IsWritten steps it old new → new ≡ written_of as_lines events
   lines_written old new empty w =
       w.stands ∙ ap (λ bytes. bytes ++ json.lines_of w.events) empty
       ∙ lines_seen w.events

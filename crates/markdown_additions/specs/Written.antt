@@ -25,39 +25,50 @@ bare_events events = map (λ e. e.0) events
 abbrev pub ranged_line : Ranged → List ℕ
 ranged_line e = line_json e.0 e.1.start e.1.end
 
+-- what is written: HTML, safe HTML by rules, or lines of JSON
+pub data FormView : Type 0 where
+  as_html : FormView
+  as_safe_html : SafeRulesView → FormView
+  as_lines : FormView
+
+abbrev pub view_of_form : Form → FormView
+view_of_form Html = as_html
+view_of_form (SafeHtml rules) = as_safe_html (rules_view rules)
+view_of_form Lines = as_lines
+
 -- what is written of events
-abbrev pub written_of : Form → List Ranged → List ℕ
-written_of Html events = html_of (bare_events events)
-written_of (SafeHtml rules) events = safe_html_of (rules_view rules) (bare_events events)
-written_of Lines events = flat_map ranged_line events
+abbrev pub written_of : FormView → List Ranged → List ℕ
+written_of as_html events = html_of (bare_events events)
+written_of (as_safe_html rules) events = safe_html_of rules (bare_events events)
+written_of as_lines events = flat_map ranged_line events
 
 -- among first events, as they are written in a form, more Starts are open in an image than can be counted
-abbrev pub IsTooDeepIn : Form → List Ranged → Type 0
-IsTooDeepIn Html events = IsTooDeep (bare_events events)
-IsTooDeepIn (SafeHtml rules) events = IsTooDeep (safe_events (rules_view rules) (bare_events events))
-IsTooDeepIn Lines events = ⊥
+abbrev pub IsTooDeepIn : FormView → List Ranged → Type 0
+IsTooDeepIn as_html events = IsTooDeep (bare_events events)
+IsTooDeepIn (as_safe_html rules) events = IsTooDeep (safe_events rules (bare_events events))
+IsTooDeepIn as_lines events = ⊥
 
 -- first events that are so
-pub record BeginsTooDeep (form : Form) (begins : List Ranged → Type 0) : Type 0 where
+pub record BeginsTooDeep (form : FormView) (begins : List Ranged → Type 0) : Type 0 where
   pub events : List Ranged
   pub begin : begins events
   pub deep : IsTooDeepIn form events
 
 -- this is why nothing is written: memory was refused, or the first events are too deep
-abbrev pub IsFaultOfWriting : Form → (begins : List Ranged → Type 0) → Fault → Type 0
+abbrev pub IsFaultOfWriting : FormView → (begins : List Ranged → Type 0) → Fault → Type 0
 IsFaultOfWriting form begins fault = (fault ≡ Memory) ⊎ ((fault ≡ Depth) × BeginsTooDeep form begins)
 
 -- what is written of the events of a text with what is added
-abbrev pub written_of_text : Form → AdditionsView → Source → List ℕ
+abbrev pub written_of_text : FormView → AdditionsView → Source → List ℕ
 written_of_text form a s = written_of form (added_events a s)
 
 -- this is why nothing is written of a text
-abbrev pub IsFaultOfWritingText : Form → AdditionsView → Source → Fault → Type 0
+abbrev pub IsFaultOfWritingText : FormView → AdditionsView → Source → Fault → Type 0
 IsFaultOfWritingText form a s fault = IsFaultOfWriting form (AreFirstAdded a s) fault
 
 -- safe HTML is a tree, whose elements stand where a browser leaves them
-abbrev pub IsTreeIn : Form → List ℕ → Type 0
-IsTreeIn (SafeHtml rules) written = IsPlacedTree written
+abbrev pub IsTreeIn : FormView → List ℕ → Type 0
+IsTreeIn (as_safe_html rules) written = IsPlacedTree written
 IsTreeIn other written = Unit {0}
 
 -- events after others, made safe; their ranges stay

@@ -2,9 +2,11 @@
 ghost use Rattle.std.specs.Prelude.{◌≡◌, IfErr, IfOk, string_bytes};
 ghost use Rattle.markdown_additions.specs.Additions.{AdditionsView, additions_view};
 ghost use Rattle.markdown_additions.specs.TextEvents.{IsNewAdded};
-ghost use Rattle.markdown_additions.specs.Written.{IsFaultOfWritingText, IsTreeIn, written_of_text};
+ghost use Rattle.markdown_additions.specs.Written.{IsFaultOfWritingText, IsTreeIn, as_html, as_lines, as_safe_html};
+ghost use Rattle.markdown_additions.specs.Written.{view_of_form, written_of_text};
 ghost use Rattle.markdown_base.specs.Source.{Source, source_as};
 ghost use Rattle.markdown_safe.specs.PlacedTree.{IsPlacedTree};
+ghost use Rattle.markdown_safe.specs.SafeRules.{rules_view};
 
 use crate::additions::Additions;
 use crate::events::{TextEvents, added_events};
@@ -30,9 +32,9 @@ pub enum Form<'r> {
 /// Returns the HTML of the events of a text.
 fn html(alloc: Global, events: TextEvents<'_>) -> Result<String, Fault>
     ensures written { IfOk result (λ written. (a : AdditionsView) (s : Source)
-        → IsNewAdded a s events.entry → string_bytes written ≡ written_of_text Form.Html a s) }
+        → IsNewAdded a s events.entry → string_bytes written ≡ written_of_text as_html a s) }
     ensures faults { IfErr result (λ fault. (a : AdditionsView) (s : Source)
-        → IsNewAdded a s events.entry → IsFaultOfWritingText Form.Html a s fault) }
+        → IsNewAdded a s events.entry → IsFaultOfWritingText as_html a s fault) }
 {
     let mut written = String::new(alloc);
     let unplaced = Unplaced::new(events);
@@ -48,12 +50,12 @@ fn safe_html<'a>(
 ) -> Result<String, Fault>
     ensures written { IfOk result (λ written. (a : AdditionsView) (s : Source)
         → IsNewAdded a s events.entry
-        → string_bytes written ≡ written_of_text (Form.SafeHtml rules.entry) a s) }
+        → string_bytes written ≡ written_of_text (as_safe_html (rules_view rules.entry)) a s) }
     ensures tree { IfOk result (λ written. (a : AdditionsView) (s : Source)
         → IsNewAdded a s events.entry → IsPlacedTree (string_bytes written)) }
     ensures faults { IfErr result (λ fault. (a : AdditionsView) (s : Source)
         → IsNewAdded a s events.entry
-        → IsFaultOfWritingText (Form.SafeHtml rules.entry) a s fault) }
+        → IsFaultOfWritingText (as_safe_html (rules_view rules.entry)) a s fault) }
 {
     let mut written = String::new(alloc);
     let unplaced = Unplaced::new(events);
@@ -66,9 +68,9 @@ fn safe_html<'a>(
 /// Returns the lines of the events of a text.
 fn lines(alloc: Global, events: TextEvents<'_>) -> Result<String, Fault>
     ensures written { IfOk result (λ written. (a : AdditionsView) (s : Source)
-        → IsNewAdded a s events.entry → string_bytes written ≡ written_of_text Form.Lines a s) }
+        → IsNewAdded a s events.entry → string_bytes written ≡ written_of_text as_lines a s) }
     ensures faults { IfErr result (λ fault. (a : AdditionsView) (s : Source)
-        → IsNewAdded a s events.entry → IsFaultOfWritingText Form.Lines a s fault) }
+        → IsNewAdded a s events.entry → IsFaultOfWritingText as_lines a s fault) }
 {
     let mut written = String::new(alloc);
     push_json(alloc, &mut written, events)?;
@@ -89,9 +91,11 @@ pub fn written_source<'a>(
     form: Form<'a>,
 ) -> Result<String, Fault>
     ensures written { IfOk result (λ written. string_bytes written
-        ≡ written_of_text form.entry (additions_view additions.entry) (source_as syntax text.now)) }
-    ensures tree { IfOk result (λ written. IsTreeIn form.entry (string_bytes written)) }
-    ensures faults { IfErr result (IsFaultOfWritingText form.entry
+        ≡ written_of_text (view_of_form form.entry) (additions_view additions.entry)
+        (source_as syntax text.now)) }
+    ensures tree { IfOk result (λ written.
+        IsTreeIn (view_of_form form.entry) (string_bytes written)) }
+    ensures faults { IfErr result (IsFaultOfWritingText (view_of_form form.entry)
         (additions_view additions.entry) (source_as syntax text.now)) }
 {
     let events = added_events(alloc, text, syntax, additions)?;

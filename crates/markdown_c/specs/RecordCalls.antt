@@ -6,14 +6,14 @@ use Rattle.markdown_base.specs.Source.{source_as}
 use Rattle.markdown_c.specs.CallsFromC.{are_known, refusal_of, syntax_by_bits}
 use Rattle.markdown_c.specs.declared.readings.Refusal.{Refusal}
 use Rattle.markdown_c.specs.declared.readings.Refusal.TheVariants.{NotUtf8, Memory, Depth, UnknownOption, NotRecords}
-use Rattle.markdown_c.specs.declared.readings.Refusal.TheVariants.{TooLong}
+use Rattle.markdown_c.specs.declared.readings.Refusal.TheVariants.{OverLimit, TooLong}
 use Rattle.markdown_defs.specs.Folding.{folded_text}
 use Rattle.markdown_records.specs.Decoded.{decoded}
 use Rattle.markdown_records.specs.RecordEntry.{Contents}
 use Rattle.markdown_records.specs.declared.fault.RecordFault.{RecordFault}
 use Rattle.markdown_records.specs.declared.fault.RecordFault.TheVariants as fault
 use Rattle.markdown_safe.specs.SafeEvents.{safe_events}
-use Rattle.markdown_safe.specs.SafeRules.{default_rules}
+use Rattle.markdown_safe.specs.SafeRules.{SafeRulesView}
 use Rattle.markdown_text_records.specs.AnswerTable.{Table, table_of}
 use Rattle.markdown_text_records.specs.RecordsHtml.{ReadsTooDeep, IsHtmlOfRecords, IsSafeHtmlOfRecords}
 use Rattle.markdown_text_records.specs.TextRecords.{AreRecordsOf, BeginsTooLong}
@@ -40,6 +40,7 @@ IsRecordsOutcome bits text answers (Err Memory) = Unit {0}
 IsRecordsOutcome bits text answers (Err Depth) = ⊥
 IsRecordsOutcome bits text answers (Err NotRecords) = (answers ≢ []) × (decoded text answers ≡ None)
 IsRecordsOutcome bits text answers (Err TooLong) = BeginsTooLong (source_as (syntax_by_bits bits) text)
+IsRecordsOutcome bits text answers (Err OverLimit) = ⊥
 
 -- the HTML of the events that records say of a text, or why there is none
 abbrev pub IsReadOutcome : (IsOf : (text records html : List ℕ) → Type 0) → (as_written : List EventView
@@ -53,13 +54,15 @@ IsReadOutcome IsOf as_written bits text records (Err Memory) = Unit {0}
 IsReadOutcome IsOf as_written bits text records (Err Depth) = ReadsTooDeep as_written text records
 IsReadOutcome IsOf as_written bits text records (Err NotRecords) = decoded text records ≡ None
 IsReadOutcome IsOf as_written bits text records (Err TooLong) = ⊥
+IsReadOutcome IsOf as_written bits text records (Err OverLimit) = ⊥
 
 abbrev pub IsRecordsHtmlOutcome : (bits : ℕ) → (text records : List ℕ) → Result (List ℕ) Refusal → Type 0
 IsRecordsHtmlOutcome = IsReadOutcome IsHtmlOfRecords (λ events. events)
 
--- the same, made safe by the rules of a caller who chooses nothing
-abbrev pub IsRecordsSafeHtmlOutcome : (bits : ℕ) → (text records : List ℕ) → Result (List ℕ) Refusal → Type 0
-IsRecordsSafeHtmlOutcome = IsReadOutcome (IsSafeHtmlOfRecords default_rules) (safe_events default_rules)
+-- the same, made safe by rules
+abbrev pub IsRecordsSafeHtmlOutcome : (rules : SafeRulesView) → (bits : ℕ) → (text records : List ℕ)
+    → Result (List ℕ) Refusal → Type 0
+IsRecordsSafeHtmlOutcome rules = IsReadOutcome (IsSafeHtmlOfRecords rules) (safe_events rules)
 
 -- the case folding of a label
 abbrev pub IsFoldOutcome : (label : List ℕ) → Result (List ℕ) Refusal → Type 0
@@ -70,3 +73,4 @@ IsFoldOutcome label (Err Depth) = ⊥
 IsFoldOutcome label (Err UnknownOption) = ⊥
 IsFoldOutcome label (Err NotRecords) = ⊥
 IsFoldOutcome label (Err TooLong) = ⊥
+IsFoldOutcome label (Err OverLimit) = ⊥

@@ -26,6 +26,7 @@ fn status(refusal: Refusal) -> i64
         Refusal::UnknownOption => -4,
         Refusal::NotRecords => -5,
         Refusal::TooLong => -6,
+        Refusal::OverLimit => -7,
     }
 }
 

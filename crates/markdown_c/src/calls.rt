@@ -1,11 +1,13 @@
 //! The functions that C calls. A slice is passed as a pointer and a length, and the allocator is not passed.
 ghost use Rattle.std.specs.Prelude.{◌≡◌, ℕ, List, Result};
-ghost use Rattle.markdown_c.specs.CallsFromC.{IsHtmlOutcome, IsJsonOutcome, IsOutlineOutcome, IsSafeHtmlOutcome};
-ghost use Rattle.markdown_c.specs.CallsFromC.{returned_number, buffer_after};
+ghost use Rattle.markdown_c.specs.CallsFromC.{IsChosenOutcome, IsHtmlOutcome, IsJsonOutcome, IsOutlineOutcome};
+ghost use Rattle.markdown_c.specs.CallsFromC.{IsSafeHtmlOutcome, SafeChoiceView, buffer_after, returned_number};
 ghost use Rattle.markdown_c.specs.declared.readings.Refusal.{Refusal};
+ghost use Rattle.markdown_safe.specs.SafeRules.{default_rules};
 
 use crate::buffer::answer;
-use crate::readings::{html_of, json_of, outline_of, safe_html_of};
+use crate::choice::SafeChoice;
+use crate::readings::{chosen_html_of, html_of, json_of, outline_of, safe_html_of};
 use std::alloc::Global;
 
 /// Renders a trusted text as HTML, which is not sanitised. Returns the length of the HTML in bytes, and writes the HTML to
@@ -42,10 +44,49 @@ pub extern "C" fn markdown_to_safe_html(
     out: &mut [u8],
 ) -> i64
     ensures { (outcome : Result (List ℕ) Refusal)
-        × IsSafeHtmlOutcome options text.now outcome
+        × IsSafeHtmlOutcome default_rules options text.now outcome
         × (result ≡ returned_number outcome) × (out.new ≡ buffer_after out.old outcome) }
 {
     answer(safe_html_of(alloc, text, options), out)
+}
+
+/// Renders a text that a stranger wrote as safe HTML by rules that the caller chooses. `prefix` follows `user-content-` in
+/// the ids of headings and footnotes, and in links to them. Of `rules` bit 0 makes links of images, bit 1 leaves only
+/// their alt text, and bit 2 leaves out the `rel` of links to other sites. `nesting` is the number of tags that may stand in
+/// one another, and `limit` the number of bytes that the HTML may have. The rest is as for `markdown_to_safe_html`.
+///
+/// # Errors
+///
+/// Returns -7 if the HTML has more bytes than `limit`, -1 also if `prefix` is not UTF-8, and -4 also if another bit of
+/// `rules` is set; otherwise as `markdown_to_safe_html`. `out` is then unchanged.
+#[unsafe(no_mangle)]
+pub extern "C" fn markdown_to_safe_html_by(
+    alloc: Global,
+    text: &[u8],
+    options: u32,
+    prefix: &[u8],
+    rules: u32,
+    nesting: usize,
+    limit: usize,
+    out: &mut [u8],
+) -> i64
+    ensures { let choice : SafeChoiceView = record {
+      prefix = prefix.now;
+      bits = rules;
+      nesting = nesting;
+      limit = limit;
+    } in
+        (outcome : Result (List ℕ) Refusal)
+        × IsChosenOutcome (λ rules. IsSafeHtmlOutcome rules options text.now) choice outcome
+        × (result ≡ returned_number outcome) × (out.new ≡ buffer_after out.old outcome) }
+{
+    let choice = SafeChoice {
+        prefix,
+        bits: rules,
+        nesting,
+        limit,
+    };
+    answer(chosen_html_of(alloc, text, options, choice), out)
 }
 
 /// Writes the events of a text as JSON: a line for each event, with its range of byte offsets in `text`. Returns the

@@ -5,6 +5,7 @@
 
 mod buffer;
 pub mod calls;
+mod choice;
 mod readings;
 pub mod record_calls;
 mod records;

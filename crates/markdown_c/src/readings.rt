@@ -3,13 +3,17 @@ ghost use Rattle.std.specs.Prelude.{◌≡◌, true, false, IfOk, IfErr, flat_ma
 ghost use Rattle.std.specs.Str.{IsUtf8};
 ghost use Rattle.markdown_additions.specs.Additions.{additions_view};
 ghost use Rattle.markdown_base.specs.Source.{source_as};
-ghost use Rattle.markdown_c.specs.CallsFromC.{IsHtmlOutcome, IsJsonOutcome, IsOutlineOutcome, IsSafeHtmlOutcome};
+ghost use Rattle.markdown_c.specs.CallsFromC.{IsChosenOutcome, IsHtmlOutcome, IsJsonOutcome, IsOutlineOutcome};
+ghost use Rattle.markdown_c.specs.CallsFromC.{IsSafeHtmlOutcome};
 ghost use Rattle.markdown_c.specs.CallsFromC.{additions_by_bits, are_known, bytes_of, gives_autolinks, gives_ids};
 ghost use Rattle.markdown_c.specs.CallsFromC.{outline_by_bits, syntax_by_bits};
+ghost use Rattle.markdown_c.specs.SafeChoice.{choice_view};
 ghost use Rattle.markdown_c.specs.declared.readings.Refusal.{Refusal};
 ghost use Rattle.markdown_outline.specs.Outline.{entry_view};
+ghost use Rattle.markdown_safe.specs.SafeRules.{default_rules, rules_view};
 ghost use Rattle.markdown_text_json.specs.OutlineJson.{entry_line};
 
+use crate::choice::{SafeChoice, rules_of, within};
 use bitflags::Flags;
 use markdown_additions::{Additions, Form, Ids, headings_source, written_source};
 use markdown_base::fault::Fault;
@@ -36,6 +40,8 @@ pub enum Refusal {
     NotRecords,
     /// A length or a number in the records is 2^32 or greater.
     TooLong,
+    /// The HTML has more bytes than the call allows.
+    OverLimit,
 }
 
 /// Converts an error of the library. No text has the error `Blocks`.
@@ -131,15 +137,41 @@ pub(crate) fn html_of(alloc: Global, bytes: &[u8], bits: u32) -> Result<String, 
     Ok(written_source(alloc, text, syntax, additions, Form::Html)?)
 }
 
-/// Returns the safe HTML of a text, without a callback.
-pub(crate) fn safe_html_of(alloc: Global, bytes: &[u8], bits: u32) -> Result<String, Refusal>
-    ensures { IsSafeHtmlOutcome bits bytes.now (bytes_of result) }
+/// Returns the safe HTML of a text by rules, without a callback.
+fn safe_html_by<'a>(
+    alloc: Global,
+    bytes: &'a [u8],
+    bits: u32,
+    rules: SafeRules<'a>,
+) -> Result<String, Refusal>
+    ensures { IsSafeHtmlOutcome (rules_view rules.entry) bits bytes.entry.now (bytes_of result) }
 {
     let syntax = syntax_of(bits)?;
     let text = text_of(bytes)?;
     let additions = additions_of(bits);
-    let rules = SafeRules::new();
     Ok(written_source(alloc, text, syntax, additions, Form::SafeHtml(rules))?)
+}
+
+/// Returns the safe HTML of a text, without a callback.
+pub(crate) fn safe_html_of(alloc: Global, bytes: &[u8], bits: u32) -> Result<String, Refusal>
+    ensures { IsSafeHtmlOutcome default_rules bits bytes.now (bytes_of result) }
+{
+    safe_html_by(alloc, bytes, bits, SafeRules::new())
+}
+
+/// Returns the safe HTML of a text by the rules that a call chooses, without a callback.
+pub(crate) fn chosen_html_of<'a>(
+    alloc: Global,
+    bytes: &'a [u8],
+    bits: u32,
+    choice: SafeChoice<'a>,
+) -> Result<String, Refusal>
+    ensures { IsChosenOutcome (λ rules. IsSafeHtmlOutcome rules bits bytes.entry.now)
+        (choice_view choice.entry) (bytes_of result) }
+{
+    let rules = rules_of(choice)?;
+    let html = safe_html_by(alloc, bytes, bits, rules)?;
+    within(html, choice.limit)
 }
 
 /// Returns the lines of the events of a text.

@@ -1,13 +1,17 @@
 //! The functions that C calls to write and to read records. A slice is passed as a pointer and a length, and the allocator
 //! is not passed.
 ghost use Rattle.std.specs.Prelude.{◌≡◌, ℕ, List, Result};
-ghost use Rattle.markdown_c.specs.CallsFromC.{returned_number, buffer_after};
+ghost use Rattle.markdown_c.specs.CallsFromC.{IsChosenOutcome, SafeChoiceView, buffer_after, returned_number};
 ghost use Rattle.markdown_c.specs.RecordCalls.{IsFoldOutcome, IsRecordsHtmlOutcome, IsRecordsOutcome};
 ghost use Rattle.markdown_c.specs.RecordCalls.{IsRecordsSafeHtmlOutcome};
 ghost use Rattle.markdown_c.specs.declared.readings.Refusal.{Refusal};
+ghost use Rattle.markdown_safe.specs.SafeRules.{default_rules};
 
 use crate::buffer::{answer, answer_bytes};
-use crate::records::{fold_of, records_html_of, records_of, records_safe_html_of};
+use crate::choice::SafeChoice;
+use crate::records::{
+    chosen_records_html_of, fold_of, records_html_of, records_of, records_safe_html_of,
+};
 use std::alloc::Global;
 
 /// Writes the records of a text: its events with their ranges, the questions of a callback for broken links, and the link
@@ -71,10 +75,52 @@ pub extern "C" fn markdown_records_to_safe_html(
     out: &mut [u8],
 ) -> i64
     ensures { (outcome : Result (List ℕ) Refusal)
-        × IsRecordsSafeHtmlOutcome options text.now records.now outcome
+        × IsRecordsSafeHtmlOutcome default_rules options text.now records.now outcome
         × (result ≡ returned_number outcome) × (out.new ≡ buffer_after out.old outcome) }
 {
     answer(records_safe_html_of(alloc, text, records, options), out)
+}
+
+/// Renders the events that records say of a text as safe HTML by rules that the caller chooses, as for
+/// `markdown_to_safe_html_by`. The rest is as for `markdown_records_to_safe_html`.
+///
+/// # Errors
+///
+/// As those of `markdown_records_to_safe_html`, and for what is chosen those of `markdown_to_safe_html_by`. `out` is then
+/// unchanged.
+#[unsafe(no_mangle)]
+pub extern "C" fn markdown_records_to_safe_html_by(
+    alloc: Global,
+    text: &[u8],
+    records: &[u8],
+    options: u32,
+    prefix: &[u8],
+    rules: u32,
+    nesting: usize,
+    limit: usize,
+    out: &mut [u8],
+) -> i64
+    ensures { let choice : SafeChoiceView = record {
+      prefix = prefix.now;
+      bits = rules;
+      nesting = nesting;
+      limit = limit;
+    } in
+        (outcome : Result (List ℕ) Refusal)
+        × IsChosenOutcome (λ rules. IsRecordsSafeHtmlOutcome rules options text.now records.now)
+        choice outcome
+        × (result ≡ returned_number outcome) × (out.new ≡ buffer_after out.old outcome) }
+{
+    let choice = SafeChoice {
+        prefix,
+        bits: rules,
+        nesting,
+        limit,
+    };
+    answer(
+        chosen_records_html_of(alloc, text, records, options, choice),
+        out,
+    )
 }
 
 /// Writes the case folding of a link label: two labels match if and only if theirs are equal. Returns its length in bytes,

@@ -1,13 +1,16 @@
 //! The outcomes of the calls that write and read records.
 ghost use Rattle.std.specs.Prelude.{◌≡◌, ◌≢◌, ◌⊎◌, [], None, MatchResult};
 ghost use Rattle.markdown_base.specs.declared.fault.Fault.TheVariants.{Memory};
-ghost use Rattle.markdown_c.specs.CallsFromC.{bytes_of, vec_bytes};
+ghost use Rattle.markdown_c.specs.CallsFromC.{IsChosenOutcome, bytes_of, vec_bytes};
+ghost use Rattle.markdown_c.specs.SafeChoice.{choice_view};
 ghost use Rattle.markdown_c.specs.RecordCalls.{IsFoldOutcome, IsRecordsHtmlOutcome, IsRecordsOutcome};
 ghost use Rattle.markdown_c.specs.RecordCalls.{IsRecordsSafeHtmlOutcome, IsTable};
 ghost use Rattle.markdown_records.specs.Decoded.{decoded};
 ghost use Rattle.markdown_records.specs.declared.fault.RecordFault.TheVariants.{NotRecords, Of};
+ghost use Rattle.markdown_safe.specs.SafeRules.{default_rules, rules_view};
 ghost use Rattle.markdown_text_records.specs.AnsweringView.{table_in};
 
+use crate::choice::{SafeChoice, rules_of, within};
 use crate::readings::{Refusal, syntax_of, text_of};
 use markdown_records::{RecordAnswers, RecordFault, RecordedText};
 use markdown_safe::SafeRules;
@@ -79,6 +82,22 @@ pub(crate) fn records_html_of(
     Ok(html_of_records(alloc, text, records)?)
 }
 
+/// Returns the safe HTML by rules of the events that records say of a text.
+fn records_safe_html_by(
+    alloc: Global,
+    bytes: &[u8],
+    records: &[u8],
+    bits: u32,
+    rules: SafeRules<'_>,
+) -> Result<String, Refusal>
+    ensures { IsRecordsSafeHtmlOutcome (rules_view rules.entry) bits bytes.now records.now
+        (bytes_of result) }
+{
+    let _ = syntax_of(bits)?;
+    let text = text_of(bytes)?;
+    Ok(safe_html_of_records(alloc, text, records, rules)?)
+}
+
 /// Returns the safe HTML of the events that records say of a text.
 pub(crate) fn records_safe_html_of(
     alloc: Global,
@@ -86,11 +105,26 @@ pub(crate) fn records_safe_html_of(
     records: &[u8],
     bits: u32,
 ) -> Result<String, Refusal>
-    ensures { IsRecordsSafeHtmlOutcome bits bytes.now records.now (bytes_of result) }
+    ensures { IsRecordsSafeHtmlOutcome default_rules bits bytes.now records.now
+        (bytes_of result) }
 {
-    let _ = syntax_of(bits)?;
-    let text = text_of(bytes)?;
-    Ok(safe_html_of_records(alloc, text, records, SafeRules::new())?)
+    records_safe_html_by(alloc, bytes, records, bits, SafeRules::new())
+}
+
+/// Returns the safe HTML, by the rules that a call chooses, of the events that records say of a text.
+pub(crate) fn chosen_records_html_of(
+    alloc: Global,
+    bytes: &[u8],
+    records: &[u8],
+    bits: u32,
+    choice: SafeChoice<'_>,
+) -> Result<String, Refusal>
+    ensures { IsChosenOutcome (λ rules. IsRecordsSafeHtmlOutcome rules bits bytes.now records.now)
+        (choice_view choice.entry) (bytes_of result) }
+{
+    let rules = rules_of(choice)?;
+    let html = records_safe_html_by(alloc, bytes, records, bits, rules)?;
+    within(html, choice.limit)
 }
 
 /// Returns the case folding of a link label.

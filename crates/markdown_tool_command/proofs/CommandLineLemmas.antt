@@ -1,5 +1,5 @@
 -- The command is one whose matches and faults clap defines, and what follows for a request.
-use Rattle.std.proofs.Common.{◌≡◌, ◌∙◌, ℕ, Bor, Err, List, Some, ap, is_some, refl, subst, true}
+use Rattle.std.proofs.Common.{◌≡◌, ◌∙◌, Err, List, ap, refl, subst, true}
 use Rattle.std.specs.Result.{IsOk, is_err}
 use Rattle.clap.proofs.OnLiterals.{clap_on_literals}
 use Rattle.clap.specs.Words.{App, HasKind, HasMatchesOf, Row, Text, fault_of, found_of, is_simple, is_simple_and_free}
@@ -10,12 +10,12 @@ use Rattle.clap.specs.declared.error.kind.ErrorKind.{ErrorKind}
 use Rattle.clap.specs.declared.error.kind.ErrorKind.TheVariants as kinds
 use Rattle.clap.specs.declared.parser.matches.ArgMatches.{ArgMatches}
 use Rattle.markdown_tool_command.specs.CommandLine.{tool}
-use Rattle.markdown_tool_command.specs.Extensions.{unknown_part}
-use Rattle.markdown_tool_command.specs.Requests.{IsRefusal, IsRequestOf, IsWrong, format_asked, parts_asked}
+use Rattle.markdown_tool_command.specs.Requests.{IsRefusal, IsRequestOf, IsWrong, IsWrongValue, format_asked}
 use Rattle.markdown_tool_command.specs.declared.choices.Misuse.{Misuse}
 use Rattle.markdown_tool_command.specs.declared.request.Refusal.{Refusal}
 use Rattle.markdown_tool_command.specs.declared.request.Refusal.TheVariants as refusals
 use Rattle.markdown_tool_command.specs.declared.request.Request.{Request}
+use Rattle.markdown_tool_command.specs.declared.request.WrongValue.{WrongValue}
 
 module _ (formats : ValueParser) where
   pub is_simple_tool : is_simple (tool formats) ≡ true
@@ -55,9 +55,9 @@ module _ (rows : List Row) (refusal : Refusal) (kind : ErrorKind) (refused : IsR
       let why : format_asked rows ≡ Err misuse = subst (λ (r : Refusal). IsRefusal rows r) is refused in
       rw kind_is (ap is_err why)
 
-  pub wrong_list : (part : Bor (List ℕ)) → refusal ≡ refusals.UnknownExtension part → kind ≡ kinds.InvalidValue
+  pub wrong_value : (value : WrongValue) → refusal ≡ refusals.WrongValue value → kind ≡ kinds.InvalidValue
       → IsWrong rows kind
-  wrong_list part is kind_is =
-      let why : IsOk (format_asked rows) × (unknown_part (parts_asked rows) ≡ Some part.now) =
+  wrong_value value is kind_is =
+      let why : IsOk (format_asked rows) × IsWrongValue rows value =
       subst (λ (r : Refusal). IsRefusal rows r) is refused in
-      rw kind_is (why.0, ap is_some why.1)
+      rw kind_is (why.0, (value, why.1))

@@ -9,7 +9,8 @@ use Rattle.markdown_tool_command.specs.declared.choices.Format.TheVariants.{Link
 use Rattle.markdown_tool_command.specs.declared.choices.Choices.{Choices}
 use Rattle.markdown_tool_command.specs.declared.choices.Misuse.{Misuse}
 use Rattle.markdown_tool_command.specs.declared.choices.Misuse.TheVariants.{SafeWithoutHtml, PageWithoutHtml}
-use Rattle.markdown_tool_command.specs.declared.choices.Misuse.TheVariants.{PartWithoutPage, PositionsWithoutLines}
+use Rattle.markdown_tool_command.specs.declared.choices.Misuse.TheVariants.{PartWithoutPage, RuleWithoutSafe}
+use Rattle.markdown_tool_command.specs.declared.choices.Misuse.TheVariants.{PositionsWithoutLines}
 
 -- the names of the formats
 abbrev pub format_names : List (List ℕ)
@@ -50,8 +51,10 @@ checked_positions choices (Err misuse) = Err misuse
 checked_positions choices (Ok made) =
     if choices.positions && not (has_places made) then Err PositionsWithoutLines else Ok made
 
--- the format that is made, where a part of a page is asked for with the page alone, and positions with lines alone
+-- the format that is made, where a part of a page is asked for with the page alone, a rule of safe HTML with safe HTML
+-- alone, and positions with lines alone
 abbrev pub checked_format : Format → Choices → Result Format Misuse
 checked_format named choices =
     if choices.part && not choices.page then Err PartWithoutPage
+    else if choices.rule && not choices.safe then Err RuleWithoutSafe
     else checked_positions choices (made_format named choices)

@@ -39,6 +39,15 @@ output_rule = record (valued (codes "output")) { short = Some 111; defaults = co
 abbrev pub versioned : App → App
 versioned app = on_top (λ shape. record shape { has_version = true }) app
 
+-- a command with the arguments for safe HTML, for what becomes of images in it, and for a prefix of its ids
+abbrev pub with_safe_rules : App → App
+with_safe_rules app = with_rule (with_rule (with_rule app (flag (codes "safe"))) (valued (codes "images")))
+    (valued (codes "id-prefix"))
+
+-- a command with those for links to other sites, and for nesting
+abbrev pub with_bound_rules : App → App
+with_bound_rules app = with_rule (with_rule app (flag (codes "no-rel"))) (valued (codes "nesting"))
+
 -- a command with the arguments for extensions
 abbrev pub with_extension_rules : App → App
 with_extension_rules app = with_rule (with_rule (with_rule app extension_rule)
@@ -58,12 +67,13 @@ with_contents_rules app = with_rule (with_rule app (valued (codes "lang"))) (fla
 
 -- a command with those for files
 abbrev pub with_file_rules : App → App
-with_file_rules app = with_rule (with_rule (with_rule app (flag (codes "lossy"))) output_rule) file_rule
+with_file_rules app = with_rule (with_rule (with_rule (with_rule app (flag (codes "lossy"))) (valued (codes "limit")))
+    output_rule) file_rule
 
 -- the command, with all arguments
 abbrev pub tool : (formats : ValueParser) → App
 tool formats = with_file_rules (with_rule (with_contents_rules (with_page_rules (with_extension_rules
-    (with_rule (with_rule (versioned (new_app (codes "markdown"))) (to_rule formats)) (flag (codes "safe"))))))
+    (with_bound_rules (with_safe_rules (with_rule (versioned (new_app (codes "markdown"))) (to_rule formats)))))))
     (flag (codes "positions")))
 
 module _ (formats : ValueParser) (words : List (List ℕ)) where

@@ -33,6 +33,8 @@ pub enum Misuse {
     PageWithoutHtml,
     /// `--title`, `--css`, `--lang` or `--toc` without `--full-page`.
     PartWithoutPage,
+    /// `--images`, `--id-prefix`, `--no-rel` or `--nesting` without `--safe`.
+    RuleWithoutSafe,
     /// `--positions` with a format that is not lines of JSON.
     PositionsWithoutLines,
 }
@@ -46,6 +48,8 @@ pub struct Choices {
     pub page: bool,
     /// A part of the page is asked for: its title, its style sheet, its language or its contents.
     pub part: bool,
+    /// A rule of safe HTML is asked for: what becomes of images, a prefix of ids, no `rel`, or a limit of nesting.
+    pub rule: bool,
     /// `--positions` is given.
     pub positions: bool,
 }
@@ -58,6 +62,7 @@ impl Misuse {
             Misuse::SafeWithoutHtml => "--safe is for --to html alone",
             Misuse::PageWithoutHtml => "--full-page is for --to html alone",
             Misuse::PartWithoutPage => "--title, --css, --lang and --toc need --full-page",
+            Misuse::RuleWithoutSafe => "--images, --id-prefix, --no-rel and --nesting need --safe",
             Misuse::PositionsWithoutLines => {
                 "--positions is for --to events, outline, links and broken"
             }
@@ -122,12 +127,15 @@ fn has_places(format: Format) -> bool
 }
 
 /// Returns the format that is made where one is named, with these choices: safe HTML for HTML if `safe` is set. Of several
-/// mistakes it is the first in the order of `PartWithoutPage`, `SafeWithoutHtml`, `PageWithoutHtml`, `PositionsWithoutLines`.
+/// mistakes it is the first in the order of `PartWithoutPage`, `RuleWithoutSafe`, `SafeWithoutHtml`, `PageWithoutHtml`, `PositionsWithoutLines`.
 pub fn checked_format(named: Format, choices: Choices) -> Result<Format, Misuse>
     ensures { result ≡ checked_format named choices }
 {
     if choices.part && !choices.page {
         return Err(Misuse::PartWithoutPage);
+    }
+    if choices.rule && !choices.safe {
+        return Err(Misuse::RuleWithoutSafe);
     }
     let made = made_format(named, choices)?;
     if choices.positions && !has_places(made) {

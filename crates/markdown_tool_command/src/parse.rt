@@ -6,11 +6,11 @@ ghost use Rattle.markdown_tool_command.specs.Choices.{format_names};
 ghost use Rattle.markdown_tool_command.specs.CommandLine.{IsRefusedBy, IsRequestBy, IsRefusedFor, IsRequestFor};
 ghost use Rattle.markdown_tool_command.specs.CommandLine.{flag, tool, valued, versioned};
 ghost use Rattle.markdown_tool_command.specs.CommandLine.{extension_rule, file_rule, output_rule, to_rule};
-ghost use Rattle.markdown_tool_command.specs.CommandLine.{with_contents_rules, with_extension_rules};
-ghost use Rattle.markdown_tool_command.specs.CommandLine.{with_file_rules, with_page_rules};
+ghost use Rattle.markdown_tool_command.specs.CommandLine.{with_bound_rules, with_contents_rules, with_extension_rules};
+ghost use Rattle.markdown_tool_command.specs.CommandLine.{with_file_rules, with_page_rules, with_safe_rules};
 
 use crate::choices::FORMATS;
-use crate::request::{Refusal, Request, STANDARD, request_asked};
+use crate::request::{Refusal, Request, STANDARD, WrongValue, request_asked};
 use clap::error::ErrorKind;
 use clap::{Arg, ArgAction, Command, Error};
 use std::alloc::{AllocError, Global};
@@ -79,6 +79,33 @@ fn file<'a>(alloc: Global) -> Arg<'a>
         .help("The files to read; - or none is standard input")
 }
 
+/// Adds the arguments for safe HTML, for what becomes of images in it, and for a prefix of its ids.
+fn with_safe<'a>(alloc: Global, command: Command<'a>) -> Result<Command<'a>, AllocError>
+    ensures { IfOk result (λ made. app_of made ≡ with_safe_rules (app_of command.entry)) }
+{
+    let with_safe = command.arg(flag(alloc, "safe").help(
+        "Write safe HTML, for texts of strangers",
+    ))?;
+    let with_images = with_safe.arg(option_with_value(alloc, "images", "KIND").help(
+        "What images become in safe HTML: shown, links or text [default: shown]",
+    ))?;
+    with_images.arg(option_with_value(alloc, "id-prefix", "TEXT").help(
+        "What follows user-content- in the ids of safe HTML",
+    ))
+}
+
+/// Adds the arguments for links to other sites, and for nesting.
+fn with_bounds<'a>(alloc: Global, command: Command<'a>) -> Result<Command<'a>, AllocError>
+    ensures { IfOk result (λ made. app_of made ≡ with_bound_rules (app_of command.entry)) }
+{
+    let with_rel = command.arg(flag(alloc, "no-rel").help(
+        "Leave the rel of links to other sites out of safe HTML",
+    ))?;
+    with_rel.arg(option_with_value(alloc, "nesting", "NUMBER").help(
+        "How many tags may stand in one another in safe HTML [default: 128]",
+    ))
+}
+
 /// Adds the arguments for extensions.
 fn with_extensions<'a>(alloc: Global, command: Command<'a>) -> Result<Command<'a>, AllocError>
     ensures { IfOk result (λ made. app_of made ≡ with_extension_rules (app_of command.entry)) }
@@ -128,7 +155,10 @@ fn with_files<'a>(alloc: Global, command: Command<'a>) -> Result<Command<'a>, Al
     let with_lossy = command.arg(flag(alloc, "lossy").help(
         "Read bytes that are not UTF-8 as U+FFFD",
     ))?;
-    with_lossy.arg(output(alloc))?.arg(file(alloc))
+    let with_limit = with_lossy.arg(option_with_value(alloc, "limit", "BYTES").help(
+        "Write nothing, and fail, if it would be more bytes",
+    ))?;
+    with_limit.arg(output(alloc))?.arg(file(alloc))
 }
 
 /// The end of the help: the extensions, in the order of their table, and the exit statuses. A star marks those that `--gfm`
@@ -157,10 +187,9 @@ fn command<'a>(alloc: Global, formats: &'a [&'a str]) -> Result<Command<'a>, All
 {
     let bare = bare(alloc)?;
     let with_formats = bare.arg(to(alloc, formats))?;
-    let with_safe = with_formats.arg(flag(alloc, "safe").help(
-        "Write safe HTML, for texts of strangers",
-    ))?;
-    let extended = with_extensions(alloc, with_safe)?;
+    let with_safe = with_safe(alloc, with_formats)?;
+    let bounded = with_bounds(alloc, with_safe)?;
+    let extended = with_extensions(alloc, bounded)?;
     let paged = with_page(alloc, extended)?;
     let with_contents = with_contents(alloc, paged)?;
     let with_positions = with_contents.arg(flag(alloc, "positions").help(
@@ -169,9 +198,17 @@ fn command<'a>(alloc: Global, formats: &'a [&'a str]) -> Result<Command<'a>, All
     with_files(alloc, with_positions)
 }
 
-/// Returns the message about a part of a list of extensions that names none.
-fn unknown_text(alloc: Global, part: &str) -> Result<String, AllocError> {
-    format!(in alloc; "'{part}' is no extension; see --help for their names")
+/// Returns the message about a value that is none of those that it may be.
+fn wrong_text(alloc: Global, value: WrongValue<'_>) -> Result<String, AllocError> {
+    match value {
+        WrongValue::Extension(part) => {
+            format!(in alloc; "'{part}' is no extension; see --help for their names")
+        }
+        WrongValue::Images(name) => {
+            format!(in alloc; "'{name}' is none of what images become: shown, links or text")
+        }
+        WrongValue::Number(text) => format!(in alloc; "'{text}' is no number below 2^64"),
+    }
 }
 
 /// Returns the request of these words, where these formats are offered.
@@ -193,8 +230,8 @@ fn request_with<'a>(
         Err(Refusal::Misuse(misuse)) => {
             Err(command.error(ErrorKind::ArgumentConflict, misuse.text())?)
         }
-        Err(Refusal::UnknownExtension(part)) => {
-            let text = unknown_text(alloc, part)?;
+        Err(Refusal::WrongValue(value)) => {
+            let text = wrong_text(alloc, value)?;
             Err(command.error(ErrorKind::InvalidValue, text.as_str())?)
         }
     }

@@ -1,13 +1,15 @@
 //! What a command line asks for.
 ghost use Rattle.std.specs.Prelude.{◌≡◌, IfOk, IfErr, codes, map, option_map, string_bytes};
 ghost use Rattle.clap.specs.Words.{found_of, rows_of};
-ghost use Rattle.markdown_tool_command.specs.Requests.{AreEnabledBy, IsExtensionRefusal, IsRefusal, IsRequestOf};
-ghost use Rattle.markdown_tool_command.specs.Requests.{asks_part, choices_asked, format_asked, named_format, or_standard};
-ghost use Rattle.markdown_tool_command.specs.Requests.{page_asked, page_view, parts_asked, sets_asked, values_given};
+ghost use Rattle.markdown_tool_command.specs.Requests.{AreEnabledBy, IsRefusal, IsRequestOf, IsValueRefusal};
+ghost use Rattle.markdown_tool_command.specs.Requests.{asks_part, asks_rule, choices_asked, format_asked, named_format};
+ghost use Rattle.markdown_tool_command.specs.Requests.{or_standard, page_asked, page_view, parts_asked, sets_asked};
+ghost use Rattle.markdown_tool_command.specs.Requests.{values_given};
 
 use crate::choices::{Choices, Format, Misuse, checked_format, format_named};
 use crate::extensions::{Enabled, Sets, all_enabled, unknown_part};
 use crate::lists::list_parts;
+use crate::rules::{Rules, limit_asked, rules_asked};
 use crate::values::{is_given, value_of, values_of};
 use clap::ArgMatches;
 use std::alloc::{AllocError, AllocFailed, Global};
@@ -31,12 +33,16 @@ pub struct Request {
     pub format: Format,
     /// The extensions.
     pub enabled: Enabled,
+    /// The rules of safe HTML, for where that is the format.
+    pub rules: Rules,
     /// The page that is asked for, where one is; then the format is HTML, safe or not.
     pub page: Option<Page>,
     /// Whether lines of JSON have the lines and columns of their ranges; then the format is one of lines.
     pub positions: bool,
     /// Whether files that are not UTF-8 are read too, with U+FFFD for what is none.
     pub lossy: bool,
+    /// The number of bytes that may be written, where it is limited.
+    pub limit: Option<usize>,
     /// The file that is written. `-` is standard output.
     pub output: String,
     /// The files that are read, in order, at least one. `-` is standard input.
@@ -53,8 +59,19 @@ pub enum Refusal<'a> {
     Memory,
     /// Choices that do not go together.
     Misuse(Misuse),
-    /// A part of a list of extensions names none that is offered.
-    UnknownExtension(&'a str),
+    /// A value is none of those that it may be.
+    WrongValue(WrongValue<'a>),
+}
+
+/// A value that is none of those that it may be.
+#[derive(Clone, Copy, Debug, Drop)]
+pub enum WrongValue<'a> {
+    /// A part of a list of extensions that names none that is offered.
+    Extension(&'a str),
+    /// What images become, which has another name.
+    Images(&'a str),
+    /// What has to be a number below 2^64.
+    Number(&'a str),
 }
 
 impl<'a, T: Drop> From<AllocFailed<T>> for Refusal<'a> {
@@ -133,15 +150,15 @@ fn sets_asked(matches: &ArgMatches<'_>) -> Sets
 ///
 /// # Errors
 ///
-/// `Memory` if an allocation fails, and `UnknownExtension` at the first part of a list that neither enables nor disables an
+/// `Memory` if an allocation fails, and `WrongValue` at the first part of a list that neither enables nor disables an
 /// extension that is offered.
 fn enabled_by<'a>(alloc: Global, matches: &ArgMatches<'a>) -> Result<Enabled, Refusal<'a>>
     ensures enabled { IfOk result (AreEnabledBy (rows_of (found_of matches.now))) }
-    ensures refused { IfErr result (IsExtensionRefusal (rows_of (found_of matches.now))) }
+    ensures refused { IfErr result (IsValueRefusal (rows_of (found_of matches.now))) }
 {
     let parts = parts_asked(alloc, matches)?;
     match unknown_part(parts.as_slice()) {
-        Some(part) => Err(Refusal::UnknownExtension(part)),
+        Some(part) => Err(Refusal::WrongValue(WrongValue::Extension(part))),
         None => Ok(all_enabled(sets_asked(matches), parts.as_slice())),
     }
 }
@@ -154,6 +171,16 @@ fn asks_part(matches: &ArgMatches<'_>) -> bool
         || value_of(matches, "css").is_some()
         || value_of(matches, "lang").is_some()
         || is_given(matches, "toc")
+}
+
+/// Returns whether a rule of safe HTML is asked for.
+fn asks_rule(matches: &ArgMatches<'_>) -> bool
+    ensures { result ≡ asks_rule (rows_of (found_of matches.now)) }
+{
+    value_of(matches, "images").is_some()
+        || value_of(matches, "id-prefix").is_some()
+        || is_given(matches, "no-rel")
+        || value_of(matches, "nesting").is_some()
 }
 
 /// Returns the format that is named, or `None` where it is not offered.
@@ -174,6 +201,7 @@ fn choices_asked(matches: &ArgMatches<'_>) -> Choices
         safe: is_given(matches, "safe"),
         page: is_given(matches, "full-page"),
         part: asks_part(matches),
+        rule: asks_rule(matches),
         positions: is_given(matches, "positions"),
     }
 }
@@ -222,8 +250,8 @@ fn inputs_asked(alloc: Global, matches: &ArgMatches<'_>) -> Result<Vec<String>, 
 ///
 /// # Errors
 ///
-/// `Memory` if an allocation fails, `Misuse` where choices do not go together, and otherwise `UnknownExtension`, as of
-/// `enabled_by`.
+/// `Memory` if an allocation fails, `Misuse` where choices do not go together, and otherwise `WrongValue`, at a list of
+/// extensions, at a rule of safe HTML or at the limit.
 pub(crate) fn request_asked<'a>(
     alloc: Global,
     matches: &ArgMatches<'a>,
@@ -236,15 +264,19 @@ pub(crate) fn request_asked<'a>(
         Err(misuse) => return Err(Refusal::Misuse(misuse)),
     };
     let enabled = enabled_by(alloc, matches)?;
+    let rules = rules_asked(alloc, matches)?;
+    let limit = limit_asked(matches)?;
     let page = page_asked(alloc, matches)?;
     let output = String::from_str(alloc, value_of(matches, "output").unwrap_or(STANDARD))?;
     let inputs = inputs_asked(alloc, matches)?;
     Ok(Request {
         format,
         enabled,
+        rules,
         page,
         positions: is_given(matches, "positions"),
         lossy: is_given(matches, "lossy"),
+        limit,
         output,
         inputs,
     })

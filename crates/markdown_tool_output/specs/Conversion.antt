@@ -1,5 +1,6 @@
 -- A run of the program: all files of a request are read, and then the output of their texts is written.
-use Rattle.std.specs.Prelude.{◌≡◌, ◌⊎◌, ℕ, List, [], ◌∷◌, ◌++◌, Option, Result, Ok, Err, map, string_bytes}
+use Rattle.std.specs.Prelude.{◌≡◌, ◌⊎◌, ◌≤◌, ℕ, List, [], ◌∷◌, ◌++◌, length, Option, Some, None, Result, Ok, Err, map}
+use Rattle.std.specs.Prelude.{string_bytes}
 use Rattle.clap.specs.Words.{kind_of}
 use Rattle.clap.specs.declared.error.Error.{Error}
 use Rattle.clap.specs.declared.error.kind.ErrorKind.{ErrorKind}
@@ -15,9 +16,16 @@ use Rattle.markdown_tool_output.specs.Steps.{ReadsAlone, FileStep, Takes, all_re
 abbrev pub file_texts : Request → (contents : List (List ℕ)) → List (List ℕ)
 file_texts request contents = map (file_text request.lossy) contents
 
--- all files of a request are read, with these contents, and then the output of their texts is to be written
+-- so many bytes may be written
+abbrev pub IsWithin : (limit : Option ℕ) → (bytes : ℕ) → Type 0
+IsWithin None bytes = Unit {0}
+IsWithin (Some most) bytes = bytes ≤ most
+
+-- all files of a request are read, with these contents, and then the output of their texts is to be written, which is
+-- within the limit
 pub record Converts (request : Request) (old new : Option (List FileStep)) : Type 0 where
   pub contents : List (List ℕ)
+  pub within : IsWithin request.limit (length (output_of request (file_texts request contents)))
   pub steps : Takes old new
       (all_read (map string_bytes request.inputs.items) contents
       ++ writes (string_bytes request.output) (output_of request (file_texts request contents)) ∷ [])

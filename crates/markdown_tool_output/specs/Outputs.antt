@@ -3,11 +3,10 @@ use Rattle.std.specs.Prelude.{◌≡◌, ℕ, suc, Bool, not, ◌&&◌, if◌the
 use Rattle.std.specs.Prelude.{◌⊎◌, ◌==◌, Option, Some, None, bytes_eq, is_some}
 use Rattle.std.specs.Prelude.{option_map, codes, decimal, map, nat_lt, slice_get, string_bytes, unwrap_or}
 use denote.Ref.{Bor}
-use Rattle.markdown_additions.specs.Additions.{AdditionsView, AreFirstAdded, IdsView, added_events, adds_ids}
+use Rattle.markdown_additions.specs.Additions.{AdditionsView, IdsView, added_events, adds_ids}
 use Rattle.markdown_additions.specs.Additions.{adds_no_ids, adds_prefixed_ids}
-use Rattle.markdown_additions.specs.Written.{IsFaultOfWritingText, bare_events, headings_of_text}
-use Rattle.markdown_additions.specs.Written.{links_with_additions, written_of_text}
-use Rattle.markdown_additions.specs.declared.written.Form.TheVariants as form
+use Rattle.markdown_additions.specs.Written.{FormView, IsFaultOfWritingText, as_html, as_lines, as_safe_html}
+use Rattle.markdown_additions.specs.Written.{headings_of_text, links_with_additions, written_of_text}
 use Rattle.markdown_base.specs.Source.{Source, source_as}
 use Rattle.markdown_base.specs.Syntax.{full_syntax}
 use Rattle.markdown_base.specs.declared.fault.Fault.{Fault}
@@ -19,15 +18,13 @@ use Rattle.markdown_lint_json.specs.BrokenJson.{broken_lines, broken_of_text, pl
 use Rattle.markdown_lint_json.specs.LinkJson.{link_lines, placed_link_lines}
 use Rattle.markdown_lint_json.specs.PlacedEvents.{placed_event_lines}
 use Rattle.markdown_lint_json.specs.PlacedOutline.{placed_outline_lines}
-use Rattle.markdown_out.specs.LookBacks.{IsTooDeep}
-use Rattle.markdown_outline.specs.Outline.{EntryView, Ranged}
+use Rattle.markdown_outline.specs.Outline.{EntryView}
 use Rattle.markdown_page.specs.FileTitle.{file_title}
 use Rattle.markdown_page.specs.MetadataTitle.{shown_title}
 use Rattle.markdown_page.specs.PageHtml.{page_html, style_of}
-use Rattle.markdown_safe.specs.SafeEvents.{safe_events, safe_html_of}
-use Rattle.markdown_safe.specs.SafeRules.{SafeRulesView, default_rules}
+use Rattle.markdown_safe.specs.SafeRules.{SafeRulesView}
 use Rattle.markdown_text_json.specs.OutlineJson.{outline_lines, outline_lines_with_ids}
-use Rattle.markdown_tool_command.specs.Requests.{PageView, page_view, standard}
+use Rattle.markdown_tool_command.specs.Requests.{PageView, page_view, request_rules, standard}
 use Rattle.markdown_tool_command.specs.declared.choices.Format.{Format}
 use Rattle.markdown_tool_command.specs.declared.choices.Format.TheVariants as format
 use Rattle.markdown_tool_command.specs.declared.extensions.Enabled.{Enabled}
@@ -41,6 +38,23 @@ pub record FileView : Type 0 where
   pub number : ℕ
   pub several : Bool
   pub text : List ℕ
+
+-- what is asked for of each file: a format, whether its lines have places, what is enabled, and by which rules HTML is
+-- made safe
+pub record AskedView : Type 0 where
+  pub format : Format
+  pub positions : Bool
+  pub enabled : Enabled
+  pub rules : SafeRulesView
+
+-- what a request asks for of each file
+abbrev pub asked_of : Request → AskedView
+asked_of r = record {
+  format = r.format;
+  positions = r.positions;
+  enabled = r.enabled;
+  rules = request_rules r.rules;
+}
 
 -- what begins all ids of one of several files, of which none begins with that of another
 abbrev pub file_prefix : ℕ → List ℕ
@@ -75,7 +89,7 @@ abbrev pub events_of_file : (positions : Bool) → Enabled → FileView → List
 events_of_file positions e f =
     if positions
     then placed_event_lines (without_mark f.text) (added_events (line_additions e) (file_source e f))
-    else written_of_text form.Lines (line_additions e) (file_source e f)
+    else written_of_text as_lines (line_additions e) (file_source e f)
 
 -- the headings of a file, with their ids where those are enabled
 abbrev pub line_headings : Enabled → FileView → List EntryView
@@ -109,42 +123,43 @@ broken_of_file positions e f =
 abbrev pub link_name : FileView → List ℕ
 link_name f = if f.several && not (bytes_eq f.name standard) then f.name else []
 
--- the safe HTML of a file, by the rules of a caller who chooses nothing
-abbrev pub safe_html_of_file : Enabled → FileView → List ℕ
-safe_html_of_file e f =
-    safe_html_of default_rules (bare_events (added_events (html_additions e f) (file_source e f)))
+-- what is written for a file that becomes HTML, safe or not
+abbrev pub html_of_file : FormView → Enabled → FileView → List ℕ
+html_of_file form e f = written_of_text form (html_additions e f) (file_source e f)
 
--- among the first events of a file, each made safe, more Starts are open in an image than can be counted
-pub record IsSafeFileTooDeep (e : Enabled) (f : FileView) : Type 0 where
-  pub events : List Ranged
-  pub begin : AreFirstAdded (html_additions e f) (file_source e f) events
-  pub deep : IsTooDeep (safe_events default_rules (bare_events events))
+-- what is written for a file in a format, with places in its lines where positions are asked for
+abbrev pub output_in : Format → AskedView → FileView → List ℕ
+output_in format.Html a f = html_of_file as_html a.enabled f
+output_in format.SafeHtml a f = html_of_file (as_safe_html a.rules) a.enabled f
+output_in format.Events a f = events_of_file a.positions a.enabled f
+output_in format.Outline a f = outline_of_file a.positions a.enabled f
+output_in format.Links a f = links_of_file a.positions a.enabled f
+output_in format.Broken a f = broken_of_file a.positions a.enabled f
+output_in format.Contents a f = contents_in_file (link_name f)
+    (headings_of_text None (contents_additions a.enabled) (file_source a.enabled f))
 
--- this is why no safe HTML is written for a file
-abbrev pub IsFaultOfSafeFile : Enabled → FileView → Fault → Type 0
-IsFaultOfSafeFile e f fault =
-    (fault ≡ fault_kind.Memory) ⊎ ((fault ≡ fault_kind.Depth) × IsSafeFileTooDeep e f)
+-- what is written for a file
+abbrev pub output_of_file : AskedView → FileView → List ℕ
+output_of_file a f = output_in a.format a f
 
--- what is written for a file, with places in its lines where positions are asked for
-abbrev pub output_of_file : Format → (positions : Bool) → Enabled → FileView → List ℕ
-output_of_file format.Html positions e f = written_of_text form.Html (html_additions e f) (file_source e f)
-output_of_file format.SafeHtml positions e f = safe_html_of_file e f
-output_of_file format.Events positions e f = events_of_file positions e f
-output_of_file format.Outline positions e f = outline_of_file positions e f
-output_of_file format.Links positions e f = links_of_file positions e f
-output_of_file format.Broken positions e f = broken_of_file positions e f
-output_of_file format.Contents positions e f =
-    contents_in_file (link_name f) (headings_of_text None (contents_additions e) (file_source e f))
+-- this is why a file does not become HTML
+abbrev pub IsFaultOfHtml : FormView → Enabled → FileView → Fault → Type 0
+IsFaultOfHtml form e f fault = IsFaultOfWritingText form (html_additions e f) (file_source e f) fault
 
--- this is why nothing is written for a file: an allocation was refused, or its text is too deep for HTML
-abbrev pub IsFaultOfFile : Format → Enabled → FileView → Fault → Type 0
-IsFaultOfFile format.Html e f fault = IsFaultOfWritingText form.Html (html_additions e f) (file_source e f) fault
-IsFaultOfFile format.SafeHtml e f fault = IsFaultOfSafeFile e f fault
-IsFaultOfFile format.Events e f fault = IsFaultOfWritingText form.Lines (line_additions e) (file_source e f) fault
-IsFaultOfFile format.Outline e f fault = fault ≡ fault_kind.Memory
-IsFaultOfFile format.Links e f fault = fault ≡ fault_kind.Memory
-IsFaultOfFile format.Broken e f fault = fault ≡ fault_kind.Memory
-IsFaultOfFile format.Contents e f fault = fault ≡ fault_kind.Memory
+-- this is why nothing is written for a file in a format: an allocation was refused, or its text is too deep for HTML
+abbrev pub IsFaultIn : Format → AskedView → FileView → Fault → Type 0
+IsFaultIn format.Html a f fault = IsFaultOfHtml as_html a.enabled f fault
+IsFaultIn format.SafeHtml a f fault = IsFaultOfHtml (as_safe_html a.rules) a.enabled f fault
+IsFaultIn format.Events a f fault =
+    IsFaultOfWritingText as_lines (line_additions a.enabled) (file_source a.enabled f) fault
+IsFaultIn format.Outline a f fault = fault ≡ fault_kind.Memory
+IsFaultIn format.Links a f fault = fault ≡ fault_kind.Memory
+IsFaultIn format.Broken a f fault = fault ≡ fault_kind.Memory
+IsFaultIn format.Contents a f fault = fault ≡ fault_kind.Memory
+
+-- this is why nothing is written for a file
+abbrev pub IsFaultOfFile : AskedView → FileView → Fault → Type 0
+IsFaultOfFile a f fault = IsFaultIn a.format a f fault
 
 -- the line that names one of several files before its lines of JSON
 abbrev pub named_line : FileView → List ℕ
@@ -174,15 +189,14 @@ abbrev pub files_of : Request → (texts : List (List ℕ)) → List FileView
 files_of r texts = files_from r (nat_lt 1 (length texts)) 0 texts
 
 -- what is written for files, one after another
-abbrev pub outputs_of : Format → (positions : Bool) → Enabled → List FileView → List ℕ
-outputs_of format positions e [] = []
-outputs_of format positions e (f ∷ files) =
-    (file_line format f ++ output_of_file format positions e f) ++ outputs_of format positions e files
+abbrev pub outputs_of : AskedView → List FileView → List ℕ
+outputs_of a [] = []
+outputs_of a (f ∷ files) = (file_line a.format f ++ output_of_file a f) ++ outputs_of a files
 
 -- this is why nothing is written for files: for one of them nothing is
-abbrev pub IsFaultOfFiles : Format → Enabled → List FileView → Fault → Type 0
-IsFaultOfFiles format e [] fault = fault ≡ fault_kind.Memory
-IsFaultOfFiles format e (f ∷ files) fault = IsFaultOfFile format e f fault ⊎ IsFaultOfFiles format e files fault
+abbrev pub IsFaultOfFiles : AskedView → List FileView → Fault → Type 0
+IsFaultOfFiles a [] fault = fault ≡ fault_kind.Memory
+IsFaultOfFiles a (f ∷ files) fault = IsFaultOfFile a f fault ⊎ IsFaultOfFiles a files fault
 
 -- the text of the first heading of level 1 that has one
 abbrev pub first_title : List EntryView → Option (List ℕ)
@@ -191,38 +205,39 @@ first_title (e ∷ entries) = if e.level == 1 && is_some (shown_title e.text) th
     else first_title entries
 
 -- the rules by which the events of a file are made safe, where they are
-abbrev pub safe_rules : Format → Option SafeRulesView
-safe_rules format.SafeHtml = Some default_rules
-safe_rules other = None
+abbrev pub safe_in : Format → SafeRulesView → Option SafeRulesView
+safe_in format.SafeHtml rules = Some rules
+safe_in other rules = None
 
 -- the headings of a file as its HTML shows them
-abbrev pub headings_of_file : Format → Enabled → FileView → List EntryView
-headings_of_file format e f = headings_of_text (safe_rules format) (html_additions e f) (file_source e f)
+abbrev pub headings_of_file : AskedView → FileView → List EntryView
+headings_of_file a f =
+    headings_of_text (safe_in a.format a.rules) (html_additions a.enabled f) (file_source a.enabled f)
 
 -- the title that a file's first heading of level 1 with a text gives a page, or otherwise its name
-abbrev pub title_of_headings : Format → Enabled → FileView → List ℕ
-title_of_headings format e f = unwrap_or (first_title (headings_of_file format e f)) (file_title f.name)
+abbrev pub title_of_headings : AskedView → FileView → List ℕ
+title_of_headings a f = unwrap_or (first_title (headings_of_file a f)) (file_title f.name)
 
 -- the title of a page without one of its own: that in the metadata of the first file, or of its headings
-abbrev pub title_of_file : Format → Enabled → FileView → List ℕ
-title_of_file format e f = unwrap_or (title_in_metadata (file_source e f)) (title_of_headings format e f)
+abbrev pub title_of_file : AskedView → FileView → List ℕ
+title_of_file a f = unwrap_or (title_in_metadata (file_source a.enabled f)) (title_of_headings a f)
 
-abbrev pub title_of_files : Format → Enabled → List FileView → List ℕ
-title_of_files format e [] = []
-title_of_files format e (f ∷ files) = title_of_file format e f
+abbrev pub title_of_files : AskedView → List FileView → List ℕ
+title_of_files a [] = []
+title_of_files a (f ∷ files) = title_of_file a f
 
 -- the contents of a page: for each file the list of its headings
-abbrev pub contents_of_files : Format → Enabled → List FileView → List ℕ
-contents_of_files format e [] = []
-contents_of_files format e (f ∷ files) = html_list_of (headings_of_file format e f) ++ contents_of_files format e files
+abbrev pub contents_of_files : AskedView → List FileView → List ℕ
+contents_of_files a [] = []
+contents_of_files a (f ∷ files) = html_list_of (headings_of_file a f) ++ contents_of_files a files
 
 -- a text as a field of a page, wherever it is in memory
 abbrev pub text_of_page : List ℕ → Bor (List ℕ)
 text_of_page text = record { ref_ptr = (0, 0); now = text }
 
 -- the title of a page: its own, or that of its files
-abbrev pub title_shown : PageView → Format → Enabled → List FileView → List ℕ
-title_shown page format e files = unwrap_or page.title (title_of_files format e files)
+abbrev pub title_shown : PageView → AskedView → List FileView → List ℕ
+title_shown page a files = unwrap_or page.title (title_of_files a files)
 
 -- a page with this title, these contents and this HTML
 abbrev pub page_around : PageView → (title contents html : List ℕ) → List ℕ
@@ -235,20 +250,20 @@ page_around page title contents html = page_html (record {
 })
 
 -- the contents of a page, where they are asked for
-abbrev pub contents_asked : PageView → Format → Enabled → List FileView → List ℕ
-contents_asked page format e files = if page.contents then contents_of_files format e files else []
+abbrev pub contents_asked : PageView → AskedView → List FileView → List ℕ
+contents_asked page a files = if page.contents then contents_of_files a files else []
 
 -- what is written, in a page where one is asked for
-abbrev pub in_page : Option PageView → Format → Enabled → List FileView → (outputs : List ℕ) → List ℕ
-in_page None format e files outputs = outputs
-in_page (Some page) format e files outputs =
-    page_around page (title_shown page format e files) (contents_asked page format e files) outputs
+abbrev pub in_page : Option PageView → AskedView → List FileView → (outputs : List ℕ) → List ℕ
+in_page None a files outputs = outputs
+in_page (Some page) a files outputs =
+    page_around page (title_shown page a files) (contents_asked page a files) outputs
 
 -- what is written for a request whose files hold these texts
 abbrev pub output_of : Request → (texts : List (List ℕ)) → List ℕ
-output_of r texts = in_page (option_map page_view r.page) r.format r.enabled (files_of r texts)
-    (outputs_of r.format r.positions r.enabled (files_of r texts))
+output_of r texts = in_page (option_map page_view r.page) (asked_of r) (files_of r texts)
+    (outputs_of (asked_of r) (files_of r texts))
 
 -- this is why nothing is written for a request
 abbrev pub IsFaultOfOutput : Request → (texts : List (List ℕ)) → Fault → Type 0
-IsFaultOfOutput r texts fault = IsFaultOfFiles r.format r.enabled (files_of r texts) fault
+IsFaultOfOutput r texts fault = IsFaultOfFiles (asked_of r) (files_of r texts) fault

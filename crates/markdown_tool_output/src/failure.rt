@@ -13,6 +13,8 @@ pub enum Failure<'a> {
     NotText(&'a str, NotText),
     /// An allocation was refused, or rendering failed.
     Fault(Fault),
+    /// What is to be written has more bytes than this.
+    OverLimit(usize),
     /// A file cannot be written.
     Write(&'a str, io::Error),
 }
@@ -75,6 +77,12 @@ pub fn say<E: Write>(failure: &Failure<'_>, err: &mut E) {
             let line = at.line;
             let offset = at.offset;
             writeln!(err, "markdown: {name}:{line}: not UTF-8 at byte {offset}")
+        }
+        Failure::OverLimit(limit) => {
+            writeln!(
+                err,
+                "markdown: nothing is written, since it would be more than {limit} bytes"
+            )
         }
         Failure::Fault(fault) => {
             let text = fault_text(fault);

@@ -1,11 +1,13 @@
-//! The files that are read.
+//! The files that are read, and what is asked for of each.
 ghost use Rattle.std.specs.Prelude.{◌≡◌, IfErr, IfOk, map, slice_get, string_bytes, unwrap_or};
 ghost use Rattle.markdown_tool_command.specs.Requests.{standard};
-ghost use Rattle.markdown_tool_output.specs.Files.{file_view};
-ghost use Rattle.markdown_tool_output.specs.Outputs.{file_prefix, files_of, link_name};
+ghost use Rattle.markdown_tool_output.specs.Files.{asked_view, file_view};
+ghost use Rattle.markdown_tool_output.specs.Outputs.{asked_of, file_prefix, files_of, link_name};
 
 use markdown_base::fault::Fault;
-use markdown_tool_command::{Request, STANDARD};
+use markdown_safe::SafeRules;
+use markdown_tool_command::extensions::Enabled;
+use markdown_tool_command::{Format, Request, STANDARD};
 use std::alloc::Global;
 
 /// One of the files that are read.
@@ -17,6 +19,29 @@ pub(crate) struct File<'a> {
     /// Whether there are several.
     pub several: bool,
     pub text: &'a str,
+}
+
+/// What is asked for of each file.
+#[derive(Clone, Copy, Debug, Drop)]
+pub(crate) struct Asked<'r> {
+    pub format: Format,
+    /// Whether lines of JSON have the lines and columns of their ranges.
+    pub positions: bool,
+    pub enabled: Enabled,
+    /// The rules by which HTML is made safe.
+    pub rules: SafeRules<'r>,
+}
+
+/// Returns what a request asks for of each file.
+pub(crate) fn asked_of(request: &Request) -> Asked<'_>
+    ensures { asked_view result ≡ asked_of request.now }
+{
+    Asked {
+        format: request.format,
+        positions: request.positions,
+        enabled: request.enabled,
+        rules: request.rules.as_safe(),
+    }
 }
 
 /// Returns the name of the file after this number of others.

@@ -7,13 +7,13 @@ ghost use Rattle.markdown_lint_json.specs.PlacedOutline.{placed_outline_lines};
 ghost use Rattle.markdown_outline.specs.Outline.{entry_view};
 ghost use Rattle.markdown_safe.specs.SafeRules.{rules_view};
 ghost use Rattle.markdown_tool_output.specs.FileText.{without_mark};
-ghost use Rattle.markdown_tool_output.specs.Files.{file_view};
+ghost use Rattle.markdown_tool_output.specs.Files.{asked_view, file_view};
 ghost use Rattle.markdown_tool_output.specs.Outputs.{bare_outline, contents_additions, file_source, first_title};
 ghost use Rattle.markdown_tool_output.specs.Outputs.{headings_of_file, line_headings, link_name};
-ghost use Rattle.markdown_tool_output.specs.Outputs.{outline_of_file, safe_rules};
+ghost use Rattle.markdown_tool_output.specs.Outputs.{outline_of_file, safe_in};
 
 use crate::additions::{contents_additions, line_additions};
-use crate::file::{File, file_prefix, link_name};
+use crate::file::{Asked, File, file_prefix, link_name};
 use crate::text::without_mark;
 use markdown_additions::{Additions, Ids, headings_source};
 use markdown_base::fault::Fault;
@@ -114,29 +114,30 @@ pub(crate) fn contents_of_file(
 }
 
 /// Returns the rules by which the events of a file are made safe, if they are.
-fn safe_rules(format: Format) -> Option<SafeRules<'static>>
-    ensures { option_map rules_view result ≡ safe_rules format }
+fn safe_in<'r>(asked: Asked<'r>) -> Option<SafeRules<'r>>
+    ensures { option_map rules_view result
+        ≡ safe_in asked.entry.format (rules_view asked.entry.rules) }
 {
-    match format {
-        Format::SafeHtml => Some(SafeRules::new()),
+    match asked.format {
+        Format::SafeHtml => Some(asked.rules),
         _ => None,
     }
 }
 
 /// Returns the headings of a file as its HTML shows them.
-pub(crate) fn headings_of_file(
+pub(crate) fn headings_of_file<'f>(
     alloc: Global,
-    format: Format,
-    enabled: Enabled,
-    file: File<'_>,
+    asked: Asked<'f>,
+    file: File<'f>,
 ) -> Result<Vec<Entry>, Fault>
     ensures headings { IfOk result (λ headings. map entry_view headings.items
-        ≡ headings_of_file format enabled (file_view file.entry)) }
+        ≡ headings_of_file (asked_view asked.entry) (file_view file.entry)) }
     ensures refused { IfErr result (λ fault. fault ≡ Fault.Memory) }
 {
+    let enabled = asked.enabled;
     let syntax = Syntax::full(enabled.options);
     let text = without_mark(file.text);
-    let safe = safe_rules(format);
+    let safe = safe_in(asked);
     if !enabled.heading_ids || !file.several {
         return headings_source(alloc, text, syntax, line_additions(enabled), safe);
     }

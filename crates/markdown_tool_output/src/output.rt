@@ -1,13 +1,13 @@
 //! What is written for a request: a function of the request and of the texts alone.
 ghost use Rattle.std.specs.Prelude.{◌≡◌, ◌++◌, IfErr, IfOk, OnOk, map, string_bytes};
-ghost use Rattle.markdown_additions.specs.Written.{IsFaultOfWritingText, written_of_text};
-ghost use Rattle.markdown_tool_output.specs.Files.{file_view};
-ghost use Rattle.markdown_tool_output.specs.Outputs.{IsFaultOfFile, IsFaultOfFiles, IsFaultOfOutput, IsFaultOfSafeFile};
-ghost use Rattle.markdown_tool_output.specs.Outputs.{events_of_file, file_line, file_source, html_additions, line_additions};
-ghost use Rattle.markdown_tool_output.specs.Outputs.{named_line, output_of, output_of_file, outputs_of, safe_html_of_file};
+ghost use Rattle.markdown_additions.specs.Written.{IsFaultOfWritingText, as_lines, view_of_form};
+ghost use Rattle.markdown_tool_output.specs.Files.{asked_view, file_view};
+ghost use Rattle.markdown_tool_output.specs.Outputs.{IsFaultOfFile, IsFaultOfFiles, IsFaultOfHtml, IsFaultOfOutput};
+ghost use Rattle.markdown_tool_output.specs.Outputs.{events_of_file, file_line, file_source, html_of_file, line_additions};
+ghost use Rattle.markdown_tool_output.specs.Outputs.{named_line, output_of, output_of_file, outputs_of};
 
 use crate::additions::line_additions;
-use crate::file::{File, file_prefix, files_of};
+use crate::file::{Asked, File, asked_of, file_prefix, files_of};
 use crate::headings::{contents_of_file, outline_of_file};
 use crate::lint::{broken_of_file, links_of_file};
 use crate::page::{Inside, page_of};
@@ -16,7 +16,6 @@ use markdown_additions::{Additions, Form, Ids, placed_lines_source, written_sour
 use markdown_base::fault::Fault;
 use markdown_base::syntax::Syntax;
 use markdown_json::{Piece, push_pieces};
-use markdown_safe::SafeRules;
 use markdown_tool_command::extensions::Enabled;
 use markdown_tool_command::{Format, Request};
 use std::alloc::{AllocError, Global};
@@ -29,9 +28,9 @@ fn html_of_file<'f>(
     file: File<'f>,
 ) -> Result<String, Fault>
     ensures html { let f = file_view file.entry in IfOk result (λ html. string_bytes html
-        ≡ written_of_text form.entry (html_additions enabled f) (file_source enabled f)) }
-    ensures faults { let f = file_view file.entry in IfErr result
-        (IsFaultOfWritingText form.entry (html_additions enabled f) (file_source enabled f)) }
+        ≡ html_of_file (view_of_form form.entry) enabled f) }
+    ensures faults { IfErr result
+        (IsFaultOfHtml (view_of_form form.entry) enabled (file_view file.entry)) }
 {
     let syntax = Syntax::full(enabled.options);
     let text = without_mark(file.text);
@@ -46,16 +45,6 @@ fn html_of_file<'f>(
     written_source(alloc, text, syntax, additions, form)
 }
 
-/// Returns the safe HTML of a file, by the rules of a caller who chooses nothing.
-fn safe_html_of_file(alloc: Global, enabled: Enabled, file: File<'_>) -> Result<String, Fault>
-    ensures html { IfOk result (λ html.
-        string_bytes html ≡ safe_html_of_file enabled (file_view file.entry)) }
-    ensures faults { IfErr result (IsFaultOfSafeFile enabled (file_view file.entry)) }
-{
-    let rules = SafeRules::new();
-    html_of_file(alloc, Form::SafeHtml(rules), enabled, file)
-}
-
 /// Returns the lines of the events of a file, with the places of their ranges if `positions` is set.
 fn events_of_file(
     alloc: Global,
@@ -66,7 +55,7 @@ fn events_of_file(
     ensures lines { IfOk result (λ lines.
         string_bytes lines ≡ events_of_file positions enabled (file_view file.entry)) }
     ensures faults { let f = file_view file.entry in IfErr result
-        (IsFaultOfWritingText Form.Lines (line_additions enabled) (file_source enabled f)) }
+        (IsFaultOfWritingText as_lines (line_additions enabled) (file_source enabled f)) }
 {
     let syntax = Syntax::full(enabled.options);
     let text = without_mark(file.text);
@@ -78,21 +67,18 @@ fn events_of_file(
     }
 }
 
-/// Returns what is written in a format for a file, with places in its lines if `positions` is set.
-fn output_of_file(
-    alloc: Global,
-    format: Format,
-    positions: bool,
-    enabled: Enabled,
-    file: File<'_>,
-) -> Result<String, Fault>
+/// Returns what is written for a file.
+fn output_of_file<'f>(alloc: Global, asked: Asked<'f>, file: File<'f>) -> Result<String, Fault>
     ensures output { IfOk result (λ output.
-        string_bytes output ≡ output_of_file format positions enabled (file_view file.entry)) }
-    ensures faults { IfErr result (IsFaultOfFile format enabled (file_view file.entry)) }
+        string_bytes output ≡ output_of_file (asked_view asked.entry) (file_view file.entry)) }
+    ensures faults { IfErr result
+        (IsFaultOfFile (asked_view asked.entry) (file_view file.entry)) }
 {
-    match format {
+    let enabled = asked.enabled;
+    let positions = asked.positions;
+    match asked.format {
         Format::Html => html_of_file(alloc, Form::Html, enabled, file),
-        Format::SafeHtml => safe_html_of_file(alloc, enabled, file),
+        Format::SafeHtml => html_of_file(alloc, Form::SafeHtml(asked.rules), enabled, file),
         Format::Events => events_of_file(alloc, positions, enabled, file),
         Format::Outline => outline_of_file(alloc, positions, enabled, file),
         Format::Links => links_of_file(alloc, positions, enabled, file),
@@ -133,21 +119,16 @@ fn push_file_line(outputs: &mut String, format: Format, file: File<'_>) -> Resul
 }
 
 /// Returns what is written for files, one after another.
-fn outputs_of(
-    alloc: Global,
-    format: Format,
-    positions: bool,
-    enabled: Enabled,
-    files: &[File<'_>],
-) -> Result<String, Fault>
-    ensures outputs { IfOk result (λ outputs.
-        string_bytes outputs ≡ outputs_of format positions enabled (map file_view files.now)) }
-    ensures faults { IfErr result (IsFaultOfFiles format enabled (map file_view files.now)) }
+fn outputs_of(alloc: Global, asked: Asked<'_>, files: &[File<'_>]) -> Result<String, Fault>
+    ensures outputs { IfOk result (λ outputs. string_bytes outputs
+        ≡ outputs_of (asked_view asked.entry) (map file_view files.now)) }
+    ensures faults { IfErr result
+        (IsFaultOfFiles (asked_view asked.entry) (map file_view files.now)) }
 {
     let mut outputs = String::new(alloc);
     'files: for file in files {
-        push_file_line(&mut outputs, format, *file)?;
-        let output = output_of_file(alloc, format, positions, enabled, *file)?;
+        push_file_line(&mut outputs, asked.format, *file)?;
+        let output = output_of_file(alloc, asked, *file)?;
         outputs.push_str(output.as_str())?;
     }
     Ok(outputs)
@@ -165,18 +146,12 @@ pub fn output_of(alloc: Global, request: &Request, texts: &[String]) -> Result<S
     ensures faults { IfErr result (IsFaultOfOutput request.now (map string_bytes texts.now)) }
 {
     let files = files_of(alloc, request, texts)?;
-    let outputs = outputs_of(
-        alloc,
-        request.format,
-        request.positions,
-        request.enabled,
-        files.as_slice(),
-    )?;
+    let asked = asked_of(request);
+    let outputs = outputs_of(alloc, asked, files.as_slice())?;
     match &request.page {
         Some(page) => {
             let inside = Inside {
-                format: request.format,
-                enabled: request.enabled,
+                asked,
                 files: files.as_slice(),
                 html: outputs.as_str(),
             };

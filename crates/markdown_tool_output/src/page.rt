@@ -1,12 +1,12 @@
 //! The page that a request asks for.
 ghost use Rattle.std.specs.Prelude.{◌≡◌, IfErr, IfOk, map, string_bytes};
 ghost use Rattle.markdown_tool_command.specs.Requests.{page_view};
-ghost use Rattle.markdown_tool_output.specs.Files.{file_view};
+ghost use Rattle.markdown_tool_output.specs.Files.{asked_view, file_view};
 ghost use Rattle.markdown_tool_output.specs.Outputs.{contents_asked, contents_of_files, in_page, title_of_file};
 ghost use Rattle.markdown_tool_output.specs.Outputs.{title_of_files, title_of_headings, title_shown};
 ghost use Rattle.std.specs.Prelude.{Some};
 
-use crate::file::File;
+use crate::file::{Asked, File};
 use crate::headings::{first_title, headings_of_file};
 use crate::metadata::title_in_metadata;
 use crate::text::without_mark;
@@ -14,22 +14,16 @@ use markdown_base::fault::Fault;
 use markdown_base::syntax::Syntax;
 use markdown_contents::html_list_of;
 use markdown_page::{Style, file_title, page_html};
-use markdown_tool_command::extensions::Enabled;
-use markdown_tool_command::{Format, Page};
+use markdown_tool_command::Page;
 use std::alloc::Global;
 
 /// Returns the title that the headings of a file give a page, or otherwise its name.
-fn title_of_headings(
-    alloc: Global,
-    format: Format,
-    enabled: Enabled,
-    file: File<'_>,
-) -> Result<String, Fault>
+fn title_of_headings(alloc: Global, asked: Asked<'_>, file: File<'_>) -> Result<String, Fault>
     ensures title { IfOk result (λ title.
-        string_bytes title ≡ title_of_headings format enabled (file_view file.entry)) }
+        string_bytes title ≡ title_of_headings (asked_view asked.entry) (file_view file.entry)) }
     ensures refused { IfErr result (λ fault. fault ≡ Fault.Memory) }
 {
-    let headings = headings_of_file(alloc, format, enabled, file)?;
+    let headings = headings_of_file(alloc, asked, file)?;
     match first_title(headings.as_slice()) {
         Some(title) => Ok(String::from_str(alloc, title)?),
         None => Ok(String::from_str(alloc, file_title(file.name))?),
@@ -37,36 +31,26 @@ fn title_of_headings(
 }
 
 /// Returns the title that a file gives a page: that in its metadata, or of its headings.
-fn title_of_file(
-    alloc: Global,
-    format: Format,
-    enabled: Enabled,
-    file: File<'_>,
-) -> Result<String, Fault>
+fn title_of_file(alloc: Global, asked: Asked<'_>, file: File<'_>) -> Result<String, Fault>
     ensures title { IfOk result (λ title.
-        string_bytes title ≡ title_of_file format enabled (file_view file.entry)) }
+        string_bytes title ≡ title_of_file (asked_view asked.entry) (file_view file.entry)) }
     ensures refused { IfErr result (λ fault. fault ≡ Fault.Memory) }
 {
-    let syntax = Syntax::full(enabled.options);
+    let syntax = Syntax::full(asked.enabled.options);
     match title_in_metadata(alloc, without_mark(file.text), syntax)? {
         Some(title) => Ok(title),
-        None => title_of_headings(alloc, format, enabled, file),
+        None => title_of_headings(alloc, asked, file),
     }
 }
 
 /// Returns the title that the first of some files gives a page.
-fn title_of_files(
-    alloc: Global,
-    format: Format,
-    enabled: Enabled,
-    files: &[File<'_>],
-) -> Result<String, Fault>
+fn title_of_files(alloc: Global, asked: Asked<'_>, files: &[File<'_>]) -> Result<String, Fault>
     ensures title { IfOk result (λ title.
-        string_bytes title ≡ title_of_files format enabled (map file_view files.now)) }
+        string_bytes title ≡ title_of_files (asked_view asked.entry) (map file_view files.now)) }
     ensures refused { IfErr result (λ fault. fault ≡ Fault.Memory) }
 {
     match files.first() {
-        Some(file) => title_of_file(alloc, format, enabled, *file),
+        Some(file) => title_of_file(alloc, asked, *file),
         None => Ok(String::new(alloc)),
     }
 }
@@ -75,34 +59,29 @@ fn title_of_files(
 fn title_shown(
     alloc: Global,
     page: &Page,
-    format: Format,
-    enabled: Enabled,
+    asked: Asked<'_>,
     files: &[File<'_>],
 ) -> Result<String, Fault>
     ensures title { IfOk result (λ title. string_bytes title
-        ≡ title_shown (page_view page.now) format enabled (map file_view files.now)) }
+        ≡ title_shown (page_view page.now) (asked_view asked.entry) (map file_view files.now)) }
     ensures refused { IfErr result (λ fault. fault ≡ Fault.Memory) }
 {
     match &page.title {
         Some(title) => Ok(String::from_str(alloc, title.as_str())?),
-        None => title_of_files(alloc, format, enabled, files),
+        None => title_of_files(alloc, asked, files),
     }
 }
 
 /// Returns the lists of the headings of files, one after another.
-fn contents_of_files(
-    alloc: Global,
-    format: Format,
-    enabled: Enabled,
-    files: &[File<'_>],
-) -> Result<String, Fault>
+fn contents_of_files(alloc: Global, asked: Asked<'_>, files: &[File<'_>]) -> Result<String, Fault>
     ensures contents { IfOk result (λ contents.
-        string_bytes contents ≡ contents_of_files format enabled (map file_view files.now)) }
+        string_bytes contents
+        ≡ contents_of_files (asked_view asked.entry) (map file_view files.now)) }
     ensures refused { IfErr result (λ fault. fault ≡ Fault.Memory) }
 {
     let mut contents = String::new(alloc);
     'files: for file in files {
-        let headings = headings_of_file(alloc, format, enabled, *file)?;
+        let headings = headings_of_file(alloc, asked, *file)?;
         let list = html_list_of(alloc, headings.as_slice())?;
         contents.push_str(list.as_str())?;
     }
@@ -113,16 +92,15 @@ fn contents_of_files(
 fn contents_asked(
     alloc: Global,
     page: &Page,
-    format: Format,
-    enabled: Enabled,
+    asked: Asked<'_>,
     files: &[File<'_>],
 ) -> Result<String, Fault>
     ensures contents { IfOk result (λ contents. string_bytes contents
-        ≡ contents_asked (page_view page.now) format enabled (map file_view files.now)) }
+        ≡ contents_asked (page_view page.now) (asked_view asked.entry) (map file_view files.now)) }
     ensures refused { IfErr result (λ fault. fault ≡ Fault.Memory) }
 {
     if page.contents {
-        contents_of_files(alloc, format, enabled, files)
+        contents_of_files(alloc, asked, files)
     } else {
         Ok(String::new(alloc))
     }
@@ -131,8 +109,7 @@ fn contents_asked(
 /// What becomes a page.
 #[derive(Clone, Copy, Drop)]
 pub(crate) struct Inside<'a> {
-    pub format: Format,
-    pub enabled: Enabled,
+    pub asked: Asked<'a>,
     pub files: &'a [File<'a>],
     /// The HTML of the files.
     pub html: &'a str,
@@ -142,11 +119,11 @@ pub(crate) struct Inside<'a> {
 pub(crate) fn page_of(alloc: Global, page: &Page, inside: Inside<'_>) -> Result<String, Fault>
     ensures html { let i = inside.entry in let files = map file_view i.files.now in IfOk result
         (λ html. string_bytes html
-        ≡ in_page (Some (page_view page.now)) i.format i.enabled files i.html.now) }
+        ≡ in_page (Some (page_view page.now)) (asked_view i.asked) files i.html.now) }
     ensures refused { IfErr result (λ fault. fault ≡ Fault.Memory) }
 {
-    let title = title_shown(alloc, page, inside.format, inside.enabled, inside.files)?;
-    let contents = contents_asked(alloc, page, inside.format, inside.enabled, inside.files)?;
+    let title = title_shown(alloc, page, inside.asked, inside.files)?;
+    let contents = contents_asked(alloc, page, inside.asked, inside.files)?;
     let whole = markdown_page::Page {
         language: page.language.as_deref(),
         title: title.as_str(),

@@ -1,8 +1,9 @@
 //! The program over any files: reads those that the words name, and writes what is made of them.
-ghost use Rattle.std.specs.Prelude.{◌≡◌, ◌⊎◌, ◌∷◌, ℕ, List, [], IfOk, OnOk, OnErr, map, string_bytes};
+ghost use Rattle.std.specs.Prelude.{◌≡◌, ◌⊎◌, ◌∷◌, ◌<◌, ℕ, List, [], IfOk, MatchOption, OnOk, OnErr, Some, length, map};
+ghost use Rattle.std.specs.Prelude.{string_bytes};
 ghost use Rattle.clap.specs.Words.{kind_of};
 ghost use Rattle.markdown_tool_command.specs.Requests.{standard};
-ghost use Rattle.markdown_tool_output.specs.Conversion.{Converts, RunEnds, EndsWithout, exit_status};
+ghost use Rattle.markdown_tool_output.specs.Conversion.{Converts, EndsWithout, IsWithin, RunEnds, exit_status};
 ghost use Rattle.markdown_tool_output.specs.FileText.{file_text};
 ghost use Rattle.markdown_tool_output.specs.Steps.{ReadsAlone, ReadsFile, ReadsFiles, Takes, writes};
 
@@ -70,6 +71,17 @@ fn read_texts<'a, F: Files>(
     Ok(texts)
 }
 
+/// Returns the limit, if an output has more bytes.
+fn exceeded(limit: Option<usize>, output: &str) -> Option<usize>
+    ensures { MatchOption result (IsWithin limit (length output.now))
+        (λ most. (limit ≡ Some most) × (most < length output.now)) }
+{
+    match limit {
+        Some(most) if output.len() > most => Some(most),
+        Some(_) | None => None,
+    }
+}
+
 /// Reads all files of a request, makes the whole output, and then writes it.
 ///
 /// # Errors
@@ -86,6 +98,9 @@ pub fn convert<'a, F: Files>(
 {
     let texts = read_texts(alloc, request.inputs.as_slice(), request.lossy, files)?;
     let output = output_of(alloc, request, texts.as_slice())?;
+    if let Some(limit) = exceeded(request.limit, output.as_str()) {
+        return Err(Failure::OverLimit(limit));
+    }
     match files.write(request.output.as_str(), output.as_str()) {
         Ok(()) => Ok(()),
         Err(error) => Err(write_failure(request.output.as_str(), error)),

@@ -39,6 +39,26 @@ const MISUSES: &[(&[&str], &str)] = &[
         "--title, --css, --lang and --toc need --full-page",
     ),
     (
+        &["--images", "links", "a.md"],
+        "--images, --id-prefix, --no-rel and --nesting need --safe",
+    ),
+    (
+        &["--id-prefix", "a", "-t", "toc", "-e", "b", "a.md"],
+        "--images, --id-prefix, --no-rel and --nesting need --safe",
+    ),
+    (
+        &["--no-rel", "-f", "-t", "events", "a.md"],
+        "--images, --id-prefix, --no-rel and --nesting need --safe",
+    ),
+    (
+        &["--nesting", "a", "--positions", "a.md"],
+        "--images, --id-prefix, --no-rel and --nesting need --safe",
+    ),
+    (
+        &["--title", "a", "--no-rel", "a.md"],
+        "--title, --css, --lang and --toc need --full-page",
+    ),
+    (
         &["--safe", "-t", "events", "a.md"],
         "--safe is for --to html alone",
     ),
@@ -102,6 +122,23 @@ const MISUSES: &[(&[&str], &str)] = &[
         &["-e", "no-", "a.md"],
         "'no-' is no extension; see --help for their names",
     ),
+    (
+        &["--safe", "--images", "none", "-e", "b", "a.md"],
+        "'b' is no extension; see --help for their names",
+    ),
+    (
+        &["--safe", "--nesting", "a", "--images", "Links", "a.md"],
+        "'Links' is none of what images become: shown, links or text",
+    ),
+    (
+        &["--safe", "--nesting", "", "--limit", "a", "a.md"],
+        "'' is no number below 2^64",
+    ),
+    (
+        &["--limit", "18446744073709551616", "a.md"],
+        "'18446744073709551616' is no number below 2^64",
+    ),
+    (&["--limit", "1k", "a.md"], "'1k' is no number below 2^64"),
 ];
 
 /// What follows a mistake.
@@ -159,6 +196,10 @@ Arguments:
 Options:
   -t, --to <FORMAT>       What to write [default: html] [possible values: html, events, outline, toc, links, broken]
       --safe              Write safe HTML, for texts of strangers
+      --images <KIND>     What images become in safe HTML: shown, links or text [default: shown]
+      --id-prefix <TEXT>  What follows user-content- in the ids of safe HTML
+      --no-rel            Leave the rel of links to other sites out of safe HTML
+      --nesting <NUMBER>  How many tags may stand in one another in safe HTML [default: 128]
   -e, --extension <LIST>  Enable extensions, with commas between; no-NAME disables one; may be repeated
   -a, --all-extensions    Enable all extensions but old-footnotes
       --gfm               Enable the extensions of GitHub, which are marked with a *
@@ -169,6 +210,7 @@ Options:
       --toc               Begin the page with a table of contents
       --positions         Add lines and columns to lines of JSON
       --lossy             Read bytes that are not UTF-8 as U+FFFD
+      --limit <BYTES>     Write nothing, and fail, if it would be more bytes
   -o, --output <FILE>     The file to write; - is standard output [default: -]
   -h, --help              Print help
   -V, --version           Print version

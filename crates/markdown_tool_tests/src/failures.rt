@@ -50,6 +50,12 @@ const FAILURES: &[Row] = &[
         1,
         "markdown: c.html: permission denied\n",
     ),
+    (
+        &["--limit", "8", "a.md"],
+        None,
+        1,
+        "markdown: nothing is written, since it would be more than 8 bytes\n",
+    ),
     (&["a.md"], Some(ErrorKind::BrokenPipe), 1, ""),
     (
         &["a.md"],

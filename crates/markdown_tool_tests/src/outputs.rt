@@ -103,6 +103,57 @@ const LISTS: &[Row] = &[
     ),
 ];
 
+/// Safe HTML by rules, and what is written within a limit.
+const RULES: &[Row] = &[
+    (
+        &["--safe", "-e", "heading-ids", "rules.md"],
+        "-: <h1 id=\"user-content-a\">A</h1>\n\
+        <p><img src=\"c\" alt=\"b\" /> <a href=\"//e\" rel=\"nofollow ugc noopener\">d</a></p>\n\
+        <blockquote>\n<p><em>f</em></p>\n</blockquote>\n",
+    ),
+    (
+        &[
+            "--safe",
+            "--images",
+            "links",
+            "--id-prefix",
+            "17-",
+            "-e",
+            "heading-ids",
+            "rules.md",
+        ],
+        "-: <h1 id=\"user-content-17-a\">A</h1>\n\
+        <p><a href=\"c\">b</a> <a href=\"//e\" rel=\"nofollow ugc noopener\">d</a></p>\n\
+        <blockquote>\n<p><em>f</em></p>\n</blockquote>\n",
+    ),
+    (
+        &[
+            "--safe",
+            "--images",
+            "text",
+            "--no-rel",
+            "--nesting",
+            "2",
+            "rules.md",
+        ],
+        "-: <h1>A</h1>\n<p>b <a href=\"//e\">d</a></p>\n<blockquote>\n<p>f</p>\n</blockquote>\n",
+    ),
+    (&["--safe", "--images", "shown", "a.md"], "-: <p>a</p>\n"),
+    (
+        &[
+            "--safe",
+            "--id-prefix",
+            "17-",
+            "-e",
+            "heading-ids",
+            "a.md",
+            "mark.md",
+        ],
+        "-: <p>a</p>\n<h1 id=\"user-content-17-f2-a\">A</h1>\n",
+    ),
+    (&["--limit", "9", "a.md"], "-: <p>a</p>\n"),
+];
+
 /// Files that are not UTF-8: one U+FFFD stands for each maximal piece that is none, and ranges are those of the text so read.
 const LOSSY: &[Row] = &[
     (&["--lossy", "bad.md"], "-: <p>a\nb\u{fffd}</p>\n"),
@@ -250,6 +301,22 @@ const PAGES: &[Row] = &[
         <link rel=\"stylesheet\" href=\"c?d&amp;e&quot;\">\n</head>\n<body>\n\
         <main>\n<p>a&lt;b&gt;c&lt;/b&gt;©</p>\n</main>\n</body>\n</html>\n",
     ),
+    (
+        &[
+            "-f",
+            "--css",
+            "",
+            "--toc",
+            "--safe",
+            "--id-prefix",
+            "17-",
+            "mark.md",
+        ],
+        "-: <!DOCTYPE html>\n<html>\n<head>\n<meta charset=\"utf-8\">\n\
+        <meta name=\"viewport\" content=\"width=device-width, initial-scale=1\">\n<title>A</title>\n</head>\n<body>\n\
+        <nav>\n<ul>\n<li><a href=\"#user-content-17-a\">A</a></li>\n</ul>\n</nav>\n\
+        <main>\n<h1 id=\"user-content-17-a\">A</h1>\n</main>\n</body>\n</html>\n",
+    ),
 ];
 
 /// Checks what is written for each row, with status 0 and no message.
@@ -271,6 +338,7 @@ fn files(rt: HostRuntime) -> Result<(), Fail> {
     writes(rt.alloc(), &mut rows, FORMATS)?;
     writes(rt.alloc(), &mut rows, EXTENSIONS)?;
     writes(rt.alloc(), &mut rows, LISTS)?;
+    writes(rt.alloc(), &mut rows, RULES)?;
     writes(rt.alloc(), &mut rows, LOSSY)?;
     writes(rt.alloc(), &mut rows, IDS)?;
     writes(rt.alloc(), &mut rows, LINES)?;

@@ -5,7 +5,7 @@ use std::io::{self, ErrorKind};
 use std::test::Fail;
 
 /// Files with what they hold. The name `-` is that of standard input.
-static HELD: [(&str, &[u8]); 15] = [
+static HELD: [(&str, &[u8]); 16] = [
     ("-", b"*in*"),
     ("a.md", b"a"),
     ("alert.md", b"> [!NOTE]\n> a"),
@@ -29,6 +29,7 @@ static HELD: [(&str, &[u8]); 15] = [
         "pieces.md",
         b"\xff\xfe \xf0\x90\x80 \xc0\xaf \xed\xa0\x80 \xe2\x82\xe2\x82\xac",
     ),
+    ("rules.md", b"# A\n\n![b](c) [d](//e)\n\n> *f*"),
     ("strike.md", b"~~a~~ b^c^[^d]\n\n[^d]: e"),
 ];
 

@@ -5,7 +5,7 @@ use Rattle.clap.specs.Words.{app_of, found_of, rows_of}
 use Rattle.clap.specs.declared.builder.value_parser.ValueParser.TheVariants.{Names}
 use Rattle.markdown_tool_command.specs.CommandLine.{tool}
 use Rattle.markdown_tool_command.proofs.CommandLineLemmas.{asked_by, is_free_tool, is_simple_tool, refused_by}
-use Rattle.markdown_tool_command.proofs.CommandLineLemmas.{wrong_by, wrong_choices, wrong_list}
+use Rattle.markdown_tool_command.proofs.CommandLineLemmas.{wrong_by, wrong_choices, wrong_value}
 use Rattle.markdown_tool_command.proofs.parse.request_with.Goals as goal
 
 pub returns-in_err-matches-clause-refused : goal.returns-in_err-matches-clause-refused
@@ -44,7 +44,7 @@ returns-clause-refused c =
           (wrong_by (map string_bytes c.args.words.now) (app_of c.in_ok-command.command)
           (tool (Names c.args.formats)) c.in_ok-command.ensures (is_simple_tool (Names c.args.formats))
           c.in_ok-matches.matches c.in_ok-matches.ensures.ok.2 _
-          (wrong_list (rows_of (found_of c.in_ok-matches.matches)) c.in-Err-UnknownExtension.field-0 _
-          c.in-Err-UnknownExtension.ensures.refused c.in-Err-UnknownExtension.part (search rules)
-          c.in_ok-error-in-Err-UnknownExtension.ensures.kind));
+          (wrong_value (rows_of (found_of c.in_ok-matches.matches)) c.in-Err-WrongValue.field-0 _
+          c.in-Err-WrongValue.ensures.refused c.in-Err-WrongValue.value (search rules)
+          c.in_ok-error-in-Err-WrongValue.ensures.kind));
     }
