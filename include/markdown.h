@@ -16,16 +16,16 @@
  * ## Trusted texts and untrusted input
  *
  * For untrusted input use `markdown_to_safe_html` and `markdown_safe_html_alloc`, and for its records
- * `markdown_records_to_safe_html` and `markdown_records_safe_html_alloc`. The HTML of the other calls is not sanitised,
- * nor are the JSON and the records: they are for trusted texts. Raw HTML and destinations, even `javascript:`, come
- * through as the author wrote them.
+ * `markdown_records_to_safe_html` and `markdown_records_safe_html_alloc`; or, by rules that the caller chooses, the calls
+ * with `safe_html_by` in their names. The HTML of the other calls is not sanitised, nor are the JSON and the records: they
+ * are for trusted texts. Raw HTML and destinations, even `javascript:`, come through as the author wrote them.
  *
  * ## Pointers and lengths
  *
  * Lengths count bytes. `text` needs no NUL at its end: it is not read past `text_length` bytes, and may hold any
- * bytes, NUL among them. `text` is only read, and so are `label`, `answers` and `records`. Only the first `out_length`
- * bytes of `out` are written, without a NUL at the end. `out` may not overlap what is read. Each may be NULL if its
- * length is 0. No pointer is kept after the call.
+ * bytes, NUL among them. `text` is only read, and so are `label`, `answers`, `records` and `rules`. Only the first
+ * `out_length` bytes of `out` are written, without a NUL at the end. `out` may not overlap what is read. Each may be NULL
+ * if its length is 0. No pointer is kept after the call.
  *
  * ## Memory
  *
@@ -89,6 +89,9 @@ extern "C" {
 
 /** The text, its number of records or their texts have 2^32 bytes or more, which records cannot say. */
 #define MARKDOWN_TOO_LONG (-6)
+
+/** The HTML has more bytes than the rules of the call allow. */
+#define MARKDOWN_OVER_LIMIT (-7)
 
 /**
  * ## Options
@@ -180,6 +183,40 @@ extern "C" {
 #define MARKDOWN_EXTENDED (1 << 30)
 
 /**
+ * ## Rules of safe HTML
+ */
+
+/** Images are links to what they would show, whose text is their alt text; they may have the schemes of a link. */
+#define MARKDOWN_SAFE_IMAGE_LINKS (1 << 0)
+
+/** Only the alt text of images stays, so nothing is loaded; this goes before `MARKDOWN_SAFE_IMAGE_LINKS`. */
+#define MARKDOWN_SAFE_IMAGE_TEXTS (1 << 1)
+
+/** Links to other sites have no `rel`. */
+#define MARKDOWN_SAFE_NO_REL (1 << 2)
+
+/** What a caller chooses of safe HTML. Begin with `struct markdown_safe_rules rules = MARKDOWN_SAFE_RULES;`, which has what
+ * the calls without rules have, and change what is to differ. One whose fields are all 0 allows no byte of HTML.
+ */
+struct markdown_safe_rules {
+    /** What follows `user-content-` in the ids of headings and footnotes, and in links to them, in UTF-8. Texts that stand
+     * on one page, as the comments of an issue, need prefixes of which none begins another, as `17-` and `18-`, or else
+     * two of them may have the same ids.
+     */
+    const char *prefix;
+    size_t prefix_length;
+    /** Bits that are listed above. Another bit is an error, `MARKDOWN_UNKNOWN_OPTION`. */
+    uint32_t bits;
+    /** The number of tags that may stand in one another. What nests deeper loses its tags, and its text stays. */
+    size_t nesting;
+    /** The number of bytes that the HTML may have. Longer HTML is an error, `MARKDOWN_OVER_LIMIT`. */
+    size_t limit;
+};
+
+/** The rules of the calls without rules: no prefix, images are shown, 128 tags, and any number of bytes. */
+#define MARKDOWN_SAFE_RULES {NULL, 0, 0, 128, SIZE_MAX}
+
+/**
  * ## Calls into a buffer
  */
 
@@ -209,6 +246,15 @@ int64_t markdown_to_html(const uint8_t *text, size_t text_length, uint32_t optio
  */
 int64_t markdown_to_safe_html(const uint8_t *text, size_t text_length, uint32_t options, uint8_t *out,
                               size_t out_length);
+
+/** Renders an untrusted `text` as safe HTML by `rules`, which may be NULL for those of `markdown_to_safe_html`. With all of
+ * them it is safe, and its elements stand where a browser leaves them, as that of `markdown_to_safe_html`.
+ *
+ * Results and errors are those of `markdown_to_html`, and `MARKDOWN_OVER_LIMIT`; a `prefix` that is not UTF-8 is
+ * `MARKDOWN_NOT_UTF8`.
+ */
+int64_t markdown_to_safe_html_by(const uint8_t *text, size_t text_length, uint32_t options,
+                                 const struct markdown_safe_rules *rules, uint8_t *out, size_t out_length);
 
 /** Writes the events of `text` as JSON: a line for each event with its range, as `[{"Text":"a"},{"start":0,"end":1}]`.
  * The ranges are byte offsets in `text`. Each line ends with a line feed.
@@ -270,6 +316,14 @@ int64_t markdown_records_to_html(const uint8_t *text, size_t text_length, const 
 int64_t markdown_records_to_safe_html(const uint8_t *text, size_t text_length, const uint8_t *records,
                                       size_t records_length, uint32_t options, uint8_t *out, size_t out_length);
 
+/** Renders `records` of an untrusted `text` as safe HTML by `rules`, as `markdown_to_safe_html_by` does. Where elements stand
+ * is not looked at. Results and errors are those of `markdown_records_to_html`, and for the rules those of
+ * `markdown_to_safe_html_by`.
+ */
+int64_t markdown_records_to_safe_html_by(const uint8_t *text, size_t text_length, const uint8_t *records,
+                                         size_t records_length, uint32_t options,
+                                         const struct markdown_safe_rules *rules, uint8_t *out, size_t out_length);
+
 /** Writes the full case folding of a label. The labels of two records name the same reference definition if their
  * foldings are the same bytes.
  *
@@ -291,6 +345,10 @@ char *markdown_html_alloc(const char *text, size_t text_length, uint32_t options
 /** The safe HTML of `markdown_to_safe_html`. */
 char *markdown_safe_html_alloc(const char *text, size_t text_length, uint32_t options, int64_t *length);
 
+/** The safe HTML of `markdown_to_safe_html_by`. */
+char *markdown_safe_html_by_alloc(const char *text, size_t text_length, uint32_t options,
+                                  const struct markdown_safe_rules *rules, int64_t *length);
+
 /** The lines of `markdown_to_json`. */
 char *markdown_json_alloc(const char *text, size_t text_length, uint32_t options, int64_t *length);
 
@@ -308,6 +366,11 @@ char *markdown_records_html_alloc(const char *text, size_t text_length, const ui
 /** The safe HTML of `markdown_records_to_safe_html`. */
 char *markdown_records_safe_html_alloc(const char *text, size_t text_length, const uint8_t *records,
                                        size_t records_length, uint32_t options, int64_t *length);
+
+/** The safe HTML of `markdown_records_to_safe_html_by`. */
+char *markdown_records_safe_html_by_alloc(const char *text, size_t text_length, const uint8_t *records,
+                                          size_t records_length, uint32_t options,
+                                          const struct markdown_safe_rules *rules, int64_t *length);
 
 /** The folding of `markdown_fold`. */
 char *markdown_fold_alloc(const char *label, size_t label_length, int64_t *length);

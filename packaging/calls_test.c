@@ -118,6 +118,72 @@ static void test_bare_addresses(void) {
                 "{\"level\":1,\"text\":\"www.a.b/c--d\",\"range\":{\"start\":0,\"end\":15}}\n");
 }
 
+/* Safe HTML of a text by rules, and of its records, is this. */
+static void test_rules(const char *text, const struct markdown_safe_rules *rules, const char *wanted) {
+    size_t text_length = strlen(text);
+    int64_t length = 0;
+    char *result = markdown_safe_html_by_alloc(text, text_length, MARKDOWN_DEFAULT, rules, &length);
+    check(result != NULL && strcmp(result, wanted) == 0 && (size_t)length == strlen(wanted), wanted);
+    markdown_free(result);
+    check(markdown_to_safe_html_by((const uint8_t *)text, text_length, MARKDOWN_DEFAULT, rules, NULL, 0) == length,
+          "the lengths by rules differ");
+    int64_t records_length = 0;
+    uint8_t *records = markdown_records_alloc(text, text_length, MARKDOWN_DEFAULT, NULL, 0, &records_length);
+    check(records != NULL, "no records");
+    result = markdown_records_safe_html_by_alloc(text, text_length, records, (size_t)records_length, MARKDOWN_DEFAULT,
+                                                 rules, NULL);
+    check(result != NULL && strcmp(result, wanted) == 0, wanted);
+    check(markdown_records_to_safe_html_by((const uint8_t *)text, text_length, records, (size_t)records_length,
+                                           MARKDOWN_DEFAULT, rules, NULL, 0) == length,
+          "the lengths of records by rules differ");
+    markdown_free(result);
+    markdown_free(records);
+}
+
+/* No safe HTML by these rules, for this reason. */
+static void test_refused_rules(const char *text, struct markdown_safe_rules rules, int64_t status) {
+    int64_t length = 0;
+    check(markdown_safe_html_by_alloc(text, strlen(text), MARKDOWN_DEFAULT, &rules, &length) == NULL && length == status,
+          "another status than that of the rules");
+    uint8_t kept = 7;
+    check(markdown_to_safe_html_by((const uint8_t *)text, strlen(text), MARKDOWN_DEFAULT, &rules, &kept, 1) == status &&
+              kept == 7,
+          "a buffer is changed at an error");
+}
+
+/* What a caller chooses of safe HTML. */
+static void test_safe_rules(void) {
+    const char *text = "![a](b) [c](//d) [e](#f)";
+    const char *first = "<p><img src=\"b\" alt=\"a\" /> <a href=\"//d\" rel=\"nofollow ugc noopener\">c</a> "
+                        "<a href=\"#user-content-f\">e</a></p>\n";
+    const struct markdown_safe_rules none = MARKDOWN_SAFE_RULES, zero = {0};
+    struct markdown_safe_rules links = none, texts = none, flat = none, short_one = none, wrong = none;
+    test_rules(text, NULL, first);
+    test_rules(text, &none, first);
+    test_refused_rules(text, zero, MARKDOWN_OVER_LIMIT);
+    links.bits = MARKDOWN_SAFE_IMAGE_LINKS;
+    links.prefix = "17-18-";
+    links.prefix_length = 3;
+    test_rules(text, &links,
+               "<p><a href=\"b\">a</a> <a href=\"//d\" rel=\"nofollow ugc noopener\">c</a> "
+               "<a href=\"#user-content-17-f\">e</a></p>\n");
+    texts.bits = MARKDOWN_SAFE_IMAGE_LINKS | MARKDOWN_SAFE_IMAGE_TEXTS | MARKDOWN_SAFE_NO_REL;
+    test_rules(text, &texts, "<p>a <a href=\"//d\">c</a> <a href=\"#user-content-f\">e</a></p>\n");
+    flat.nesting = 1;
+    test_rules(text, &flat, "<p>a c e</p>\n");
+    /* (`<p>a</p>` and a line feed) */
+    short_one.limit = 9;
+    test_rules("a", &short_one, "<p>a</p>\n");
+    short_one.limit = 8;
+    test_refused_rules("a", short_one, MARKDOWN_OVER_LIMIT);
+    wrong.bits = (uint32_t)1 << 3;
+    test_refused_rules("a", wrong, MARKDOWN_UNKNOWN_OPTION);
+    wrong.bits = 0;
+    wrong.prefix = "\xff";
+    wrong.prefix_length = 1;
+    test_refused_rules("a", wrong, MARKDOWN_NOT_UTF8);
+}
+
 static void test_call(const struct calls *calls) {
     test_same_length(calls, "", 0);
     test_same_length(calls, "# *a*\0b", 7);
@@ -176,12 +242,13 @@ int main(void) {
     }
     test_heading_ids();
     test_bare_addresses();
+    test_safe_rules();
     static const char *const parts[] = {"> ", "- ", "> 1. ", "*a ", "**a *b ", "![", "[a](", "# a\n", "<a href=\"",
                                         "$`", "&copy;", "[^a]", "~a^b", "\"a' ", "<!-- ", "a\n\n- b\n\n    c\n",
                                         "[a]: <b> 'c'\n\n"};
     for (size_t i = 0; i < sizeof parts / sizeof parts[0]; i++) {
         test_small_stack(parts[i]);
     }
-    puts("C: the calls that allocate, NULL, the version, ids of headings, bare addresses, a small stack");
+    puts("C: the calls that allocate, NULL, the version, ids of headings, bare addresses, rules of safe HTML, a small stack");
     return 0;
 }

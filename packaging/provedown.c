@@ -5,13 +5,15 @@
 
 #include "markdown.h"
 
-/* What a call is given beside its buffer: `more` are answers or records, for the calls that take them. */
+/* What a call is given beside its buffer: `more` are answers or records, for the calls that take them, and `rules` are for
+ * those of safe HTML by rules. */
 struct given {
     const uint8_t *text;
     size_t text_length;
     const uint8_t *more;
     size_t more_length;
     uint32_t options;
+    struct markdown_safe_rules rules;
 };
 
 typedef int64_t markdown_call(const uint8_t *text, size_t text_length, uint32_t options, uint8_t *out,
@@ -23,6 +25,13 @@ markdown_call proved_markdown_to_html, proved_markdown_to_safe_html, proved_mark
 rendering_call proved_markdown_records_to_html, proved_markdown_records_to_safe_html;
 int64_t proved_markdown_to_records(const uint8_t *text, size_t text_length, uint32_t options, const uint8_t *answers,
                                    size_t answers_length, uint8_t *out, size_t out_length);
+int64_t proved_markdown_to_safe_html_by(const uint8_t *text, size_t text_length, uint32_t options, const uint8_t *prefix,
+                                        size_t prefix_length, uint32_t rules, size_t nesting, size_t limit, uint8_t *out,
+                                        size_t out_length);
+int64_t proved_markdown_records_to_safe_html_by(const uint8_t *text, size_t text_length, const uint8_t *records,
+                                                size_t records_length, uint32_t options, const uint8_t *prefix,
+                                                size_t prefix_length, uint32_t rules, size_t nesting, size_t limit,
+                                                uint8_t *out, size_t out_length);
 int64_t proved_markdown_fold(const uint8_t *label, size_t label_length, uint8_t *out, size_t out_length);
 
 /* The proved calls in one form. */
@@ -34,6 +43,13 @@ static int64_t to_html(const struct given *given, uint8_t *out, size_t out_lengt
 
 static int64_t to_safe_html(const struct given *given, uint8_t *out, size_t out_length) {
     return proved_markdown_to_safe_html(given->text, given->text_length, given->options, out, out_length);
+}
+
+static int64_t to_safe_html_by(const struct given *given, uint8_t *out, size_t out_length) {
+    const struct markdown_safe_rules *rules = &given->rules;
+    return proved_markdown_to_safe_html_by(given->text, given->text_length, given->options, (const uint8_t *)rules->prefix,
+                                           rules->prefix_length, rules->bits, rules->nesting, rules->limit, out,
+                                           out_length);
 }
 
 static int64_t to_json(const struct given *given, uint8_t *out, size_t out_length) {
@@ -59,31 +75,48 @@ static int64_t records_to_safe_html(const struct given *given, uint8_t *out, siz
                                                 given->options, out, out_length);
 }
 
+static int64_t records_to_safe_html_by(const struct given *given, uint8_t *out, size_t out_length) {
+    const struct markdown_safe_rules *rules = &given->rules;
+    return proved_markdown_records_to_safe_html_by(given->text, given->text_length, given->more, given->more_length,
+                                                   given->options, (const uint8_t *)rules->prefix, rules->prefix_length,
+                                                   rules->bits, rules->nesting, rules->limit, out, out_length);
+}
+
 static int64_t to_folding(const struct given *given, uint8_t *out, size_t out_length) {
     return proved_markdown_fold(given->text, given->text_length, out, out_length);
 }
 
-static struct given only_text(const uint8_t *text, size_t text_length, uint32_t options) {
-    struct given given = {text, text_length, NULL, 0, options};
+static struct given text_and_more(const uint8_t *text, size_t text_length, const uint8_t *more, size_t more_length,
+                                  uint32_t options) {
+    struct given given = {text, text_length, more, more_length, options, MARKDOWN_SAFE_RULES};
     return given;
 }
 
-static struct given text_and_more(const uint8_t *text, size_t text_length, const uint8_t *more, size_t more_length,
-                                  uint32_t options) {
-    struct given given = {text, text_length, more, more_length, options};
+static struct given only_text(const uint8_t *text, size_t text_length, uint32_t options) {
+    return text_and_more(text, text_length, NULL, 0, options);
+}
+
+/* The same with rules, or with those of a caller who chooses nothing if they are NULL. */
+static struct given by_rules(struct given given, const struct markdown_safe_rules *rules) {
+    if (rules != NULL) {
+        given.rules = *rules;
+    }
     return given;
 }
 
 /* Calls with the address of some byte in the place of NULL, whose length is 0. */
 static int64_t call_without_null(given_call *call, struct given given, uint8_t *out, size_t out_length) {
-    uint8_t no_bytes[3] = {0, 0, 0};
+    uint8_t no_bytes[4] = {0, 0, 0, 0};
     if (given.text == NULL) {
         given.text = &no_bytes[0];
     }
     if (given.more == NULL) {
         given.more = &no_bytes[1];
     }
-    return call(&given, out == NULL ? &no_bytes[2] : out, out_length);
+    if (given.rules.prefix == NULL) {
+        given.rules.prefix = (const char *)&no_bytes[2];
+    }
+    return call(&given, out == NULL ? &no_bytes[3] : out, out_length);
 }
 
 int64_t markdown_to_html(const uint8_t *text, size_t text_length, uint32_t options, uint8_t *out, size_t out_length) {
@@ -93,6 +126,11 @@ int64_t markdown_to_html(const uint8_t *text, size_t text_length, uint32_t optio
 int64_t markdown_to_safe_html(const uint8_t *text, size_t text_length, uint32_t options, uint8_t *out,
                               size_t out_length) {
     return call_without_null(to_safe_html, only_text(text, text_length, options), out, out_length);
+}
+
+int64_t markdown_to_safe_html_by(const uint8_t *text, size_t text_length, uint32_t options,
+                                 const struct markdown_safe_rules *rules, uint8_t *out, size_t out_length) {
+    return call_without_null(to_safe_html_by, by_rules(only_text(text, text_length, options), rules), out, out_length);
 }
 
 int64_t markdown_to_json(const uint8_t *text, size_t text_length, uint32_t options, uint8_t *out, size_t out_length) {
@@ -120,6 +158,13 @@ int64_t markdown_records_to_safe_html(const uint8_t *text, size_t text_length, c
                                       size_t records_length, uint32_t options, uint8_t *out, size_t out_length) {
     return call_without_null(records_to_safe_html, text_and_more(text, text_length, records, records_length, options),
                              out, out_length);
+}
+
+int64_t markdown_records_to_safe_html_by(const uint8_t *text, size_t text_length, const uint8_t *records,
+                                         size_t records_length, uint32_t options,
+                                         const struct markdown_safe_rules *rules, uint8_t *out, size_t out_length) {
+    struct given given = text_and_more(text, text_length, records, records_length, options);
+    return call_without_null(records_to_safe_html_by, by_rules(given, rules), out, out_length);
 }
 
 int64_t markdown_fold(const uint8_t *label, size_t label_length, uint8_t *out, size_t out_length) {
@@ -171,6 +216,12 @@ char *markdown_safe_html_alloc(const char *text, size_t text_length, uint32_t op
     return whole_of_text(to_safe_html, text, text_length, options, likely_room(text_length, 2, 256), length);
 }
 
+char *markdown_safe_html_by_alloc(const char *text, size_t text_length, uint32_t options,
+                                  const struct markdown_safe_rules *rules, int64_t *length) {
+    struct given given = only_text((const uint8_t *)text, text_length, options);
+    return (char *)whole(to_safe_html_by, by_rules(given, rules), likely_room(text_length, 2, 256), length);
+}
+
 char *markdown_json_alloc(const char *text, size_t text_length, uint32_t options, int64_t *length) {
     return whole_of_text(to_json, text, text_length, options, likely_room(text_length, 12, 1024), length);
 }
@@ -202,6 +253,13 @@ char *markdown_records_safe_html_alloc(const char *text, size_t text_length, con
                                        size_t records_length, uint32_t options, int64_t *length) {
     struct given given = text_and_more((const uint8_t *)text, text_length, records, records_length, options);
     return whole_of_records(records_to_safe_html, given, length);
+}
+
+char *markdown_records_safe_html_by_alloc(const char *text, size_t text_length, const uint8_t *records,
+                                          size_t records_length, uint32_t options,
+                                          const struct markdown_safe_rules *rules, int64_t *length) {
+    struct given given = text_and_more((const uint8_t *)text, text_length, records, records_length, options);
+    return whole_of_records(records_to_safe_html_by, by_rules(given, rules), length);
 }
 
 char *markdown_fold_alloc(const char *label, size_t label_length, int64_t *length) {

@@ -11,11 +11,12 @@ _provedown() {
             kept+=no- word=${word#no-}
         fi
         ;;
+    --images) words='shown links text' ;;
     -o | --output) files=yes ;;
-    --title | --css | --lang) ;;
+    --id-prefix | --nesting | --title | --css | --lang | --limit) ;;
     *)
         case $word in
-        -*) words='-t --to -e --extension -a --all-extensions --gfm --safe -f --full-page --title --css --lang --toc --positions --lossy -o --output -h --help -V --version' ;;
+        -*) words='-t --to -e --extension -a --all-extensions --gfm --safe --images --id-prefix --no-rel --nesting -f --full-page --title --css --lang --toc --positions --lossy --limit -o --output -h --help -V --version' ;;
         *) files=yes ;;
         esac
         ;;

@@ -5,7 +5,7 @@ import threading
 import unittest
 
 import provedown
-from provedown import Event, Heading, MarkdownError, UnknownExtension
+from provedown import Event, Heading, MarkdownError, OverLimit, SafeRules, UnknownExtension
 
 
 def run(words, given):
@@ -64,6 +64,29 @@ class Html(unittest.TestCase):
         self.assertEqual(provedown.html(text, safe=False), trusted)
         self.assertEqual(provedown.html("a <!-- b --> c<BR>d"), "<p>a  c<br />\nd</p>\n")
         self.assertEqual(provedown.html("[a <bb:c> d](e)"), '<p><a href="e">a bb:c d</a></p>\n')
+
+
+class Rules(unittest.TestCase):
+    def test_rules(self):
+        text = "![a](b) [c](//d) [e](#f)"
+        self.assertEqual(provedown.html(text, rules=SafeRules()), provedown.html(text))
+        links = '<p><a href="b">a</a> <a href="//d">c</a> <a href="#user-content-1-f">e</a></p>\n'
+        self.assertEqual(provedown.html(text, rules=SafeRules("1-", "links", rel=False)), links)
+        self.assertEqual(provedown.html(text, rules=SafeRules(images="text", nesting=1)), "<p>a c e</p>\n")
+        self.assertEqual(provedown.html("~~a~~", ["strikethrough"], rules=SafeRules(nesting=2)), "<p><del>a</del></p>\n")
+        self.assertEqual(provedown.html(text, rules=SafeRules(nesting=0)), "a c e")
+
+    def test_limit(self):
+        self.assertEqual(provedown.html("a", rules=SafeRules(limit=9)), "<p>a</p>\n")
+        self.assertEqual(provedown.html("", rules=SafeRules(limit=0)), "")
+        self.assertEqual(provedown.html("a", rules=SafeRules(limit=2**70)), "<p>a</p>\n")
+        self.assertRaises(OverLimit, provedown.html, "a", rules=SafeRules(limit=8))
+
+    def test_wrong_rules(self):
+        self.assertRaises(TypeError, provedown.html, "a", safe=False, rules=SafeRules())
+        self.assertRaises(TypeError, provedown.html, "a", rules=SafeRules(nesting="1"))
+        self.assertRaises(MarkdownError, provedown.html, "a", rules=SafeRules(limit=-1))
+        self.assertRaises(MarkdownError, provedown.html, "a", rules=SafeRules(images="none"))
 
 
 class Readings(unittest.TestCase):

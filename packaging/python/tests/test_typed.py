@@ -6,11 +6,13 @@ import unittest
 from pathlib import Path
 
 import provedown
-from provedown import BadRecords, BrokenLink, Definition, Kind, MarkdownError, typed
+from provedown import BadRecords, BrokenLink, Definition, Kind, MarkdownError, SafeRules, typed
 from provedown.typed import End, Event, Heading, Html, Image, ItemList, Link, Paragraph, SoftBreak, Start, Table, Text
 
 # The extensions that typed events have.
 EXTENSIONS = [name for name in provedown.ALL if name not in ("autolinks", "heading-ids")]
+
+RULES = SafeRules("1-", "links", rel=False, nesting=3)
 
 TEXTS = [
     "",
@@ -92,6 +94,8 @@ class Rendering(unittest.TestCase):
             for safe in (True, False):
                 wanted = provedown.html(text, EXTENSIONS, safe=safe)
                 self.assertEqual(typed.html(typed.events(text, EXTENSIONS), safe=safe), wanted)
+            wanted = provedown.html(text, EXTENSIONS, rules=RULES)
+            self.assertEqual(typed.html(typed.events(text, EXTENSIONS), rules=RULES), wanted)
 
     def test_changed_events(self):
         def shifted(event):

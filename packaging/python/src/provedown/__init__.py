@@ -8,7 +8,8 @@ let the others run meanwhile.
 """
 from . import typed
 from ._kinds import Kind
-from ._library import ALL, EXTENSIONS, GITHUB, BadRecords, MarkdownError, TooDeep, TooLong, UnknownExtension
+from ._library import ALL, EXTENSIONS, GITHUB, BadRecords, MarkdownError, OverLimit, SafeRules, TooDeep, TooLong
+from ._library import UnknownExtension
 from ._readings import Event, Heading, broken, columns, definitions, events, events_json, fold, html, outline
 from ._readings import outline_json, records
 from ._records import BrokenLink, Columns, Definition
@@ -26,6 +27,8 @@ __all__ = [
     "Heading",
     "Kind",
     "MarkdownError",
+    "OverLimit",
+    "SafeRules",
     "TooDeep",
     "TooLong",
     "UnknownExtension",

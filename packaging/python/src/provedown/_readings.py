@@ -4,7 +4,7 @@ from __future__ import annotations
 import json
 from typing import Any, Dict, Iterable, Iterator, List, NamedTuple, Optional, Sequence, Union
 
-from ._library import bits_of, encoded, folding_of, records_of, result_of
+from ._library import SafeRules, bits_of, encoded, folding_of, of_safe_html, records_of, result_of, safe_html_by
 from ._records import BrokenLink, Columns, Definition, Records, characters_of
 
 
@@ -32,14 +32,16 @@ class Heading(NamedTuple):
     id: Optional[str] = None
 
 
-def html(text: str, extensions: Iterable[str] = (), *, safe: bool = True) -> str:
+def html(text: str, extensions: Iterable[str] = (), *, safe: bool = True, rules: Optional[SafeRules] = None) -> str:
     """Returns the HTML of a text.
 
     Safe HTML is for untrusted input: raw HTML is shown as text, and destinations have one of the schemes http,
-    https, mailto and tel, those of images http or https, or none. With `safe=False` raw HTML and all destinations come through as the text's author
-    wrote them.
+    https, mailto and tel, those of images http or https, or none. `rules` say what else it is. With `safe=False` raw HTML
+    and all destinations come through as the text's author wrote them, and there are no rules.
     """
-    return result_of("safe_html" if safe else "html", encoded(text), extensions).decode()
+    if rules is None:
+        return result_of("safe_html" if safe else "html", encoded(text), extensions).decode()
+    return safe_html_by(encoded(text), extensions, of_safe_html(rules, safe)).decode()
 
 
 def events_json(text: str, extensions: Iterable[str] = ()) -> str:

@@ -63,7 +63,7 @@ from ._elements import (
     Text,
 )
 from ._kinds import ALIGNMENTS, BARE, BARE_TAGS, CLASS, LABEL, LINK_TYPES, NAME, QUOTES, STYLES, TEXTS, TITLE, VALUE, Kind
-from ._library import MarkdownError, bits_of, encoded, html_of_records
+from ._library import MarkdownError, SafeRules, bits_of, encoded, html_of_records, of_safe_html, safe_html_of_records_by
 from ._questions import AnswerBrokenLink, answered_records
 from ._records import Records
 from ._writer import Writer
@@ -150,13 +150,15 @@ def events(
     return Records(of_text, answered_records(of_text, bits_of(extensions), broken_link)).events()
 
 
-def html(of: Iterable[Event], *, safe: bool = True) -> str:
+def html(of: Iterable[Event], *, safe: bool = True, rules: Optional[SafeRules] = None) -> str:
     """Returns the HTML of events, which may be those of a text, changed or made: ranges mean nothing here.
 
-    Safe HTML is for untrusted input, as that of `provedown.html`: raw HTML is shown as text, also what a caller
-    inserts.
+    Safe HTML is for untrusted input, as that of `provedown.html`, and `rules` are its rules: raw HTML is shown as text, also
+    what a caller inserts.
     """
-    return html_of_records(b"", records_of_events(of), safe).decode()
+    if rules is None:
+        return html_of_records(b"", records_of_events(of), safe).decode()
+    return safe_html_of_records_by(b"", records_of_events(of), of_safe_html(rules, safe)).decode()
 
 
 def events_of_records(text: str, records: bytes) -> Iterator[Event]:

@@ -10,6 +10,7 @@ pub const MARKDOWN_TOO_DEEP: i64 = -3;
 pub const MARKDOWN_UNKNOWN_OPTION: i64 = -4;
 pub const MARKDOWN_NOT_RECORDS: i64 = -5;
 pub const MARKDOWN_TOO_LONG: i64 = -6;
+pub const MARKDOWN_OVER_LIMIT: i64 = -7;
 
 pub const MARKDOWN_DEFAULT: u32 = 0;
 pub const MARKDOWN_TABLES: u32 = 1 << 1;
@@ -49,12 +50,34 @@ pub const MARKDOWN_ALL: u32 = MARKDOWN_GITHUB
 pub const MARKDOWN_PROFILE: u32 = 1 << 29;
 pub const MARKDOWN_EXTENDED: u32 = 1 << 30;
 
+pub const MARKDOWN_SAFE_IMAGE_LINKS: u32 = 1 << 0;
+pub const MARKDOWN_SAFE_IMAGE_TEXTS: u32 = 1 << 1;
+pub const MARKDOWN_SAFE_NO_REL: u32 = 1 << 2;
+
+#[repr(C)]
+#[derive(Clone, Copy)]
+pub struct markdown_safe_rules {
+    pub prefix: *const c_char,
+    pub prefix_length: usize,
+    pub bits: u32,
+    pub nesting: usize,
+    pub limit: usize,
+}
+
 unsafe extern "C" {
     pub fn markdown_to_html(text: *const u8, text_length: usize, options: u32, out: *mut u8, out_length: usize) -> i64;
     pub fn markdown_to_safe_html(
         text: *const u8,
         text_length: usize,
         options: u32,
+        out: *mut u8,
+        out_length: usize,
+    ) -> i64;
+    pub fn markdown_to_safe_html_by(
+        text: *const u8,
+        text_length: usize,
+        options: u32,
+        rules: *const markdown_safe_rules,
         out: *mut u8,
         out_length: usize,
     ) -> i64;
@@ -72,6 +95,13 @@ unsafe extern "C" {
         text: *const c_char,
         text_length: usize,
         options: u32,
+        length: *mut i64,
+    ) -> *mut c_char;
+    pub fn markdown_safe_html_by_alloc(
+        text: *const c_char,
+        text_length: usize,
+        options: u32,
+        rules: *const markdown_safe_rules,
         length: *mut i64,
     ) -> *mut c_char;
     pub fn markdown_json_alloc(text: *const c_char, text_length: usize, options: u32, length: *mut i64) -> *mut c_char;
@@ -103,6 +133,15 @@ unsafe extern "C" {
         records: *const u8,
         records_length: usize,
         options: u32,
+        length: *mut i64,
+    ) -> *mut c_char;
+    pub fn markdown_records_safe_html_by_alloc(
+        text: *const c_char,
+        text_length: usize,
+        records: *const u8,
+        records_length: usize,
+        options: u32,
+        rules: *const markdown_safe_rules,
         length: *mut i64,
     ) -> *mut c_char;
     pub fn markdown_fold_alloc(label: *const c_char, label_length: usize, length: *mut i64) -> *mut c_char;

@@ -10,6 +10,8 @@ pub enum Error {
     TooDeep,
     /// The text, or what is made of it, has 4 GiB or more.
     TooLong,
+    /// The HTML has more bytes than the limit of its [`SafeRules`](crate::SafeRules).
+    OverLimit,
 }
 
 impl fmt::Display for Error {
@@ -18,6 +20,7 @@ impl fmt::Display for Error {
             Error::OutOfMemory => "out of memory",
             Error::TooDeep => "an image is nested too deeply",
             Error::TooLong => "a text of 4 GiB or more",
+            Error::OverLimit => "the HTML has more bytes than its limit",
         })
     }
 }

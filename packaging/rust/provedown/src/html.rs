@@ -13,12 +13,13 @@
 //! ```
 
 use crate::writer::Writer;
-use crate::{Error, Event, library};
+use crate::{Error, Event, SafeRules, library};
 use std::{fmt, io};
 
-type Render = fn(&[u8]) -> Result<String, Error>;
-
-fn rendered<'a>(render: Render, events: impl Iterator<Item = Event<'a>>) -> Result<String, Error> {
+fn rendered<'a>(
+    render: impl FnOnce(&[u8]) -> Result<String, Error>,
+    events: impl Iterator<Item = Event<'a>>,
+) -> Result<String, Error> {
     let mut records = Writer::default();
     for event in events {
         records.push_event(&event);
@@ -82,11 +83,22 @@ pub fn try_push_safe_html<'a, I: Iterator<Item = Event<'a>>>(s: &mut String, ite
     Ok(())
 }
 
+/// Appends the safe HTML of events to a string by rules, as [`to_safe_html_by`](crate::to_safe_html_by) has it. The rules'
+/// limit is that of what is appended.
+pub fn try_push_safe_html_by<'a, I: Iterator<Item = Event<'a>>>(
+    s: &mut String,
+    iter: I,
+    rules: &SafeRules<'_>,
+) -> Result<(), Error> {
+    s.push_str(&rendered(|records| library::safe_html_of_records_by(records, rules), iter)?);
+    Ok(())
+}
+
 /// Writes the HTML of events, by one call of `write_all`.
 pub fn write_html_io<'a, I: Iterator<Item = Event<'a>>, W: io::Write>(mut writer: W, iter: I) -> io::Result<()> {
     let html = rendered(library::html_of_records, iter).map_err(|error| match error {
         Error::OutOfMemory => io::Error::from(io::ErrorKind::OutOfMemory),
-        Error::TooDeep | Error::TooLong => io::Error::other(error),
+        Error::TooDeep | Error::TooLong | Error::OverLimit => io::Error::other(error),
     })?;
     writer.write_all(html.as_bytes())
 }

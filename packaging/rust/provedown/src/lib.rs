@@ -4,8 +4,8 @@
 //!
 //! # HTML
 //!
-//! [`to_safe_html`] is for untrusted input; [`to_html`] keeps raw HTML and all destinations. [`Extensions`] are what a call
-//! reads beyond CommonMark.
+//! [`to_safe_html`] is for untrusted input, and [`to_safe_html_by`] takes rules: [`SafeRules`]. [`to_html`] keeps raw HTML and
+//! all destinations. [`Extensions`] are what a call reads beyond CommonMark.
 //!
 //! ```
 //! use provedown::{Extensions, to_safe_html};
@@ -76,6 +76,7 @@ mod options;
 mod parse;
 mod reader;
 mod readings;
+mod rules;
 mod strings;
 pub mod utils;
 mod writer;
@@ -88,7 +89,8 @@ pub use events::{
 pub use extensions::Extensions;
 pub use options::Options;
 pub use parse::{BrokenLink, BrokenLinkCallback, DefaultBrokenLinkCallback, LinkDef, OffsetIter, Parser, RefDefs};
-pub use readings::{to_html, to_json, to_outline, to_safe_html};
+pub use readings::{to_html, to_json, to_outline, to_safe_html, to_safe_html_by};
+pub use rules::{Images, SafeRules};
 pub use strings::{CowStr, InlineStr, StringTooLongError};
 pub use utils::{TextMergeStream, TextMergeWithOffset};
 

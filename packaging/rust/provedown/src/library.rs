@@ -1,7 +1,7 @@
 //! The calls of the library, and copies of what they return. No other module has `unsafe` code.
 #![expect(unsafe_code, reason = "the calls of the library")]
 
-use crate::Error;
+use crate::{Error, SafeRules};
 use provedown_sys as sys;
 use std::ffi::c_char;
 use std::slice;
@@ -26,6 +26,7 @@ impl Returned {
                 sys::MARKDOWN_NO_MEMORY => Error::OutOfMemory,
                 sys::MARKDOWN_TOO_DEEP => Error::TooDeep,
                 sys::MARKDOWN_TOO_LONG => Error::TooLong,
+                sys::MARKDOWN_OVER_LIMIT => Error::OverLimit,
                 status => panic!("the library refuses what this crate gives it, with the status {status}"),
             });
         }
@@ -59,6 +60,30 @@ type OfRecords = unsafe extern "C" fn(*const c_char, usize, *const u8, usize, u3
 pub(crate) fn of_text(call: OfText, text: &str, options: u32) -> Result<String, Error> {
     // SAFETY: the declarations are those of the header, and the text has this length.
     unsafe { Returned::of(|length| call(text.as_ptr().cast(), text.len(), options, length).cast()) }?.text()
+}
+
+/// The rules as the library takes them.
+fn library_rules(rules: &SafeRules<'_>) -> sys::markdown_safe_rules {
+    sys::markdown_safe_rules {
+        prefix: rules.prefix.as_ptr().cast(),
+        prefix_length: rules.prefix.len(),
+        bits: rules.bits(),
+        nesting: rules.nesting,
+        limit: rules.limit,
+    }
+}
+
+/// The safe HTML of a text by rules.
+pub(crate) fn safe_html_by(text: &str, options: u32, rules: &SafeRules<'_>) -> Result<String, Error> {
+    let by = library_rules(rules);
+    // SAFETY: the declarations are those of the header, and the text and the prefix have these lengths.
+    unsafe {
+        Returned::of(|length| {
+            let text_start = text.as_ptr().cast();
+            sys::markdown_safe_html_by_alloc(text_start, text.len(), options, &by, length).cast()
+        })
+    }?
+    .text()
 }
 
 /// What `read` makes of the records of a text, of whose questions the first ones have these answers.
@@ -98,6 +123,27 @@ pub(crate) fn html_of_records(records: &[u8]) -> Result<String, Error> {
 /// The safe HTML of records of an empty text.
 pub(crate) fn safe_html_of_records(records: &[u8]) -> Result<String, Error> {
     of_records(sys::markdown_records_safe_html_alloc, records)
+}
+
+/// The safe HTML of records of an empty text by rules.
+pub(crate) fn safe_html_of_records_by(records: &[u8], rules: &SafeRules<'_>) -> Result<String, Error> {
+    let (text, by) = ("", library_rules(rules));
+    // SAFETY: the declarations are those of the header, and the text, the records and the prefix have these lengths.
+    unsafe {
+        Returned::of(|length| {
+            sys::markdown_records_safe_html_by_alloc(
+                text.as_ptr().cast(),
+                text.len(),
+                records.as_ptr(),
+                records.len(),
+                sys::MARKDOWN_DEFAULT,
+                &by,
+                length,
+            )
+            .cast()
+        })
+    }?
+    .text()
 }
 
 /// A link label without the difference between upper and lower case.

@@ -1,4 +1,4 @@
-use crate::{Error, Extensions, library};
+use crate::{Error, Extensions, SafeRules, library};
 use provedown_sys as sys;
 
 /// Returns the HTML of a trusted text: raw HTML and all destinations come through as its author wrote them.
@@ -11,6 +11,12 @@ pub fn to_html(text: &str, extensions: Extensions) -> Result<String, Error> {
 /// or `https`, or none. Links to other sites have `rel="nofollow ugc noopener"`, and no link is in a link.
 pub fn to_safe_html(text: &str, extensions: Extensions) -> Result<String, Error> {
     library::of_text(sys::markdown_safe_html_alloc, text, extensions.bits())
+}
+
+/// Returns the safe HTML of untrusted input by rules. By all rules it is safe, and its elements stand where a browser leaves
+/// them.
+pub fn to_safe_html_by(text: &str, extensions: Extensions, rules: &SafeRules<'_>) -> Result<String, Error> {
+    library::safe_html_by(text, extensions.bits(), rules)
 }
 
 /// Returns the events of a text: a line of JSON for each, with its range of bytes, in the form of `serde` for
