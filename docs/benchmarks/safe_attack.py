@@ -1,15 +1,16 @@
 """Texts that attack, each rendered as untrusted input and checked: `safe_attack.py SHARED_OBJECT [COUNT]`.
 
 SHARED_OBJECT is made as `.ci/callers` makes it. COUNT texts (20,000 by default) are made of shapes (links, images,
-definitions, titles, info strings, footnotes, wikilinks, math, raw HTML with comments and void tags) with payloads (schemes in all spellings, tags,
-attributes, ends of values), from a fixed seed. Each is rendered by both entries, with no extension, with all, and with all
-but old footnotes, which take the place of the others. The HTML is checked by Python's HTML parser, by a grammar, and by the
-URL standard's reading of schemes; all three are written apart from the definitions of the library. They also find a link in a
-link, a heading in a heading, a part of a list or a table that stands elsewhere, and a link to another site without its `rel`.
-Where Python has `html5lib`, which builds trees as browsers do, a page with the HTML in an element is read too: nothing of the
-HTML stands outside that element, and its elements stand in each other as its tags say. Prints each text that comes through,
-and how many do, also by `markdown_html_alloc`; exits with 1 where one comes through, or where none does by
-`markdown_html_alloc`, since then the texts attack nothing.
+definitions, titles, info strings, footnotes, wikilinks, math, raw HTML with comments and void tags) with payloads (schemes in
+all spellings, tags, attributes, ends of values), from a fixed seed. Each is rendered by both entries, with no extension, with
+all, and with all but old footnotes, which take the place of the others; and once more by rules that change from text to text.
+The HTML is checked by Python's HTML parser, by a grammar, and by the URL standard's reading of schemes; all three are written
+apart from the definitions of the library. They also find a link in a link, a heading in a heading, a part of a list or a
+table that stands elsewhere, a link to another site without its `rel`, and what the rules forbid: an id without their prefix,
+an image, a `rel`, and elements that nest deeper. Where Python has `html5lib`, which builds trees as browsers do, a page with
+the HTML in an element is read too: nothing of the HTML stands outside that element, and its elements stand in each other as
+its tags say. Prints each text that comes through, and how many do, also by `markdown_html_alloc`; exits with 1 where one
+comes through, or where none does by `markdown_html_alloc`, since then the texts attack nothing.
 """
 import ctypes
 import random
@@ -50,6 +51,22 @@ READINGS = {
 }
 
 
+# bits of rules
+IMAGE_LINKS, IMAGE_TEXTS, NO_REL = 1 << 0, 1 << 1, 1 << 2
+
+
+class Rules(ctypes.Structure):
+    """`struct markdown_safe_rules` of the header."""
+
+    _fields_ = [
+        ("prefix", ctypes.c_char_p), ("prefix_length", ctypes.c_size_t), ("bits", ctypes.c_uint32),
+        ("nesting", ctypes.c_size_t), ("limit", ctypes.c_size_t),
+    ]
+
+    def __init__(self, prefix=b"", bits=0, nesting=128):
+        super().__init__(prefix, len(prefix), bits, nesting, ctypes.c_size_t(-1).value)
+
+
 class Library:
     """The calls of a shared object that allocate."""
 
@@ -57,13 +74,14 @@ class Library:
         self.library = ctypes.CDLL(path)
         self.library.markdown_free.argtypes, self.library.markdown_free.restype = [ctypes.c_void_p], None
 
-    def made(self, call, text, options):
-        """What a call makes of a text."""
+    def made(self, call, text, options, *rules):
+        """What a call makes of a text, by rules where it takes them."""
         function = getattr(self.library, call)
-        function.argtypes = [ctypes.c_char_p, ctypes.c_size_t, ctypes.c_uint32, ctypes.POINTER(ctypes.c_int64)]
+        by = [ctypes.POINTER(Rules) for _ in rules]
+        function.argtypes = [ctypes.c_char_p, ctypes.c_size_t, ctypes.c_uint32, *by, ctypes.POINTER(ctypes.c_int64)]
         function.restype = ctypes.c_void_p
         given, length = text.encode(), ctypes.c_int64()
-        result = function(given, len(given), options, ctypes.byref(length))
+        result = function(given, len(given), options, *map(ctypes.byref, rules), ctypes.byref(length))
         if result is None:
             sys.exit(f"{call} returns the status {length.value} for {text!r}")
         try:
@@ -104,10 +122,11 @@ def is_safe(name, value):
 
 
 class Reader(HTMLParser):
-    """Collects what a page of untrusted input must not have."""
+    """Collects what a page of untrusted input must not have, by rules."""
 
-    def __init__(self):
+    def __init__(self, rules):
         super().__init__(convert_charrefs=True)
+        self.rules, self.prefix = rules, rules.prefix.decode()
         # what was found; the elements that are open; and each element with how deep it stands
         self.found, self.open, self.elements = [], [], []
 
@@ -119,8 +138,16 @@ class Reader(HTMLParser):
         for name, value in attributes:
             if name not in ATTRIBUTES.get(tag, ()) or value is None or not is_safe(name, value):
                 self.found.append(("attribute", tag, name, value))
-        if tag == "a" and leaves_site(dict(attributes).get("href") or "") != ("rel" in names):
+        leaves = not self.rules.bits & NO_REL and leaves_site(dict(attributes).get("href") or "")
+        if tag == "a" and leaves != ("rel" in names):
             self.found.append(("rel", attributes))
+        if tag == "img" and self.rules.bits & (IMAGE_LINKS | IMAGE_TEXTS):
+            self.found.append(("image", attributes))
+        if not (dict(attributes).get("id") or "user-content-" + self.prefix).startswith("user-content-" + self.prefix):
+            self.found.append(("prefix", attributes))
+        # (a code block is two elements, a head and its cells are four, and a reference to a footnote is two)
+        if len(self.open) > 2 * self.rules.nesting + 1:
+            self.found.append(("nesting", tag, len(self.open)))
         if tag not in VOID:
             if not may_stand(tag, self.open):
                 self.found.append(("place", tag, *self.open))
@@ -159,8 +186,8 @@ def moved_by_browsers(html, elements):
     return [] if elements_of(body[0]) == [*elements, ("u", 0)] else [("other elements",)]
 
 
-def unsafe_parts(html):
-    reader = Reader()
+def unsafe_parts(html, rules=Rules()):
+    reader = Reader(rules)
     reader.feed(html)
     reader.close()
     found = reader.found + [("left open", tag) for tag in reader.open]
@@ -236,7 +263,14 @@ def texts(count):
 def main(path, count="20000"):
     library = Library(path)
     through, through_raw = dict.fromkeys(READINGS, 0), dict.fromkeys(READINGS, 0)
+    at, through_rules = random.Random(20261201), 0
     for text in texts(int(count)):
+        rules = Rules(at.choice([b"", b"17-", b'"<&>\xc3\xa9 ', b"\n"]), at.randrange(8), at.choice([0, 1, 2, 3, 5, 128]))
+        made = library.made("markdown_safe_html_by_alloc", text, ALL_EXTENSIONS & ~OLD_FOOTNOTES, rules)
+        found = unsafe_parts(made, rules)
+        if found:
+            through_rules += 1
+            print(f"by the rules {rules.prefix!r}, {rules.bits}, {rules.nesting}: {text!r} {found}")
         for reading, options in READINGS.items():
             found = unsafe_parts(library.made("markdown_safe_html_alloc", text, options))
             if found:
@@ -245,7 +279,8 @@ def main(path, count="20000"):
             through_raw[reading] += bool(unsafe_parts(library.made("markdown_html_alloc", text, options)))
     for reading in READINGS:
         print(f"{reading}: of {count} texts {through[reading]} come through, by markdown_html_alloc {through_raw[reading]}")
-    sys.exit(any(through.values()) or not all(through_raw.values()))
+    print(f"by rules: of {count} texts {through_rules} come through")
+    sys.exit(bool(through_rules) or any(through.values()) or not all(through_raw.values()))
 
 
 if __name__ == "__main__":
