@@ -1,6 +1,6 @@
 -- What the rules require of a body by itself, for the bodies that a builder places.
-use Rattle.std.proofs.Common.{◌≡◌, ℕ, ◌+◌, ◌<◌, ◌≤◌, List, Option, Some, None, true, false, refl, arith}
-use Rattle.std.specs.Prelude.{IfSome, IsTrue, Bool, ◌||◌, ◌&&◌}
+use Rattle.std.proofs.Common.{◌≡◌, ℕ, ◌+◌, ◌≤◌, List, Option, Some, None, true, false, refl, arith}
+use Rattle.std.specs.Prelude.{IfSome, IsTrue, Bool}
 use Rattle.markdown_base.specs.declared.index.AlignmentIndex.{AlignmentIndex}
 use Rattle.markdown_base.specs.declared.index.CowIndex.{CowIndex}
 use Rattle.markdown_base.specs.declared.index.HeadingIndex.{HeadingIndex}
@@ -34,15 +34,7 @@ pub plain : {b : ItemBody} → is_resolved b ≡ false → run_character b ≡ N
     ≡ None
     → alignments_named b ≡ None
     → attributes_named b ≡ None → is_tight_paragraph b ≡ false → IsPlain b
-plain unresolved no_run placed texts alignments attributes loose = record {
-  unresolved = unresolved;
-  no_run = no_run;
-  placed = placed;
-  texts = texts;
-  alignments = alignments;
-  attributes = attributes;
-  loose = loose;
-}
+plain unresolved no_run placed texts alignments attributes loose = search (arith)
 
 -- blocks that are opened as they are are plain
 pub block_plain : (b : ItemBody) → is_plain_block b ≡ true → IsPlain b
@@ -132,21 +124,7 @@ not_open other h = refl
 
 -- one item below another is a chain that is kept just where the one above may have children
 pub chain_of_one : (above : ItemBody) (b : Numbered) → is_childless above ≡ false → ChainsAreKept above (node b nil nil)
-chain_of_one above b parent = record {
-  childless = λ h. cc (parent, h);
-  inline_only = open_inline b.item.body;
-}
-  where
-    open_inline : (b : ItemBody) → IsTrue (is_open b || false) → IsTrue (is_inline b && true)
-    open_inline (body.MaybeEmphasis count opens closes) h = refl
-    open_inline (body.MaybeMath opens closes context) h = refl
-    open_inline (body.MaybeSmartQuote quote opens closes) h = refl
-    open_inline (body.MaybeCode count escaped) h = refl
-    open_inline body.MaybeHtml h = refl
-    open_inline body.MaybeLinkOpen h = refl
-    open_inline (body.MaybeLinkClose reference) h = refl
-    open_inline body.MaybeImage h = refl
-    open_inline other h = cc (h)
+chain_of_one above b parent = search (arith, is_open, false, is_inline, true)
 
 pub parent_of_one : (above : ItemBody) (b : Numbered) → ChainsAreKept above (node b nil nil) → is_childless above
     ≡ false
@@ -171,11 +149,6 @@ block_markup body.MaybeLinkOpen source h = cc (h)
 block_markup (body.MaybeLinkClose reference) source h = cc (h)
 block_markup body.MaybeImage source h = cc (h)
 block_markup other source h = tt
-
--- a leaf is no character of a run
-pub leaf_no_run : (b : ItemBody) → is_leaf b ≡ true → run_character b ≡ None
-leaf_no_run (body.MaybeEmphasis count opens closes) h = cc (h)
-leaf_no_run other h = refl
 
 -- an inline item is no tight paragraph
 pub inline_loose : (b : ItemBody) → is_inline b ≡ true → is_tight_paragraph b ≡ false
@@ -212,20 +185,7 @@ same_parts counts = record { texts = omega arith; alignments = omega arith; attr
 
 -- a plain body
 pub plain_placed : (counts : PartCounts) (b : ItemBody) → IsPlain b → MayBePlaced counts counts b
-plain_placed counts b p = record {
-  more = same_parts counts;
-  unresolved = p.unresolved;
-  no_run = p.no_run;
-  placed = p.placed;
-  named = record {
-    text = no_name (text_named b) (λ ix. ix < counts.texts) p.texts;
-    alignments = no_name (alignments_named b) (λ ix. ix < counts.alignments) p.alignments;
-    attributes = no_name (attributes_named b) (λ ix. (1 ≤ ix) × (ix ≤ counts.attributes)) p.attributes;
-  };
-  texts = no_name (text_named b) (λ ix. counts.texts ≤ ix) p.texts;
-  alignments = no_name (alignments_named b) (λ ix. counts.alignments ≤ ix) p.alignments;
-  loose = p.loose;
-}
+plain_placed counts b p = search (arith, same_parts, no_name, text_named, alignments_named, attributes_named)
 
 -- a block with nothing below it is settled where it may occur in the tree
 pub settled_alone : (b : ItemBody) → is_unplaced b ≡ false → BlocksAreSettled b nil
@@ -235,13 +195,7 @@ settled_alone b placed = record { placed = placed; tight = λ t. refl }
 pub placed_fits : (text : List ℕ) (few many : PartCounts) (start end : ℕ) (b : ItemBody) → MayBePlaced few many b
     → MarkupIsThere text (item_over start end b)
     → LiesIn text (item_over start end b) → ItemFits text many (item_over start end b)
-placed_fits text few many start end b p markup range = record {
-  ranges_lie_in = range;
-  nothing_resolved = p.unresolved;
-  markup_is_there = markup;
-  parts_are_named = p.named;
-  blocks_are_settled = settled_alone b p.placed;
-}
+placed_fits text few many start end b p markup range = search (arith, settled_alone)
 
 -- a body that may be placed refers to what is new
 pub placed_new : (few many : PartCounts) (start end : ℕ) (b : ItemBody) → MayBePlaced few many b
@@ -267,104 +221,29 @@ pub record NamesText (b : ItemBody) (ix : ℕ) : Type 0 where
 pub text_placed : (few many : PartCounts) (b : ItemBody) (ix : ℕ) → ix ≡ few.texts → one_text_more few many
     → NamesText b ix
     → MayBePlaced few many b
-text_placed few many b ix e more n = record {
-  more = record {
-    texts = omega (arith, more.0);
-    alignments = omega (arith, more.1);
-    attributes = omega (arith, more.2);
-  };
-  unresolved = n.unresolved;
-  no_run = n.no_run;
-  placed = n.placed;
-  named = record {
-    text = rw n.text (omega (arith, more.0, e));
-    alignments = no_name (alignments_named b) (λ ix. ix < many.alignments) n.alignments;
-    attributes = no_name (attributes_named b) (λ ix. (1 ≤ ix) × (ix ≤ many.attributes)) n.attributes;
-  };
-  texts = rw n.text (omega (arith, e));
-  alignments = no_name (alignments_named b) (λ ix. few.alignments ≤ ix) n.alignments;
-  loose = n.loose;
-}
+text_placed few many b ix e more n = search (arith, no_name, alignments_named, attributes_named, n.text)
 
 pub fenced_names : (ix : CowIndex) → NamesText (body.FencedCodeBlock ix) ix.0
-fenced_names ix =
-    record {
-      unresolved = refl;
-      no_run = refl;
-      placed = refl;
-      text = refl;
-      alignments = refl;
-      attributes = refl;
-      loose
-          = refl;
-    }
+fenced_names ix = search (arith)
 
 pub footnote_names : (ix : CowIndex) → NamesText (body.FootnoteDefinition ix) ix.0
-footnote_names ix =
-    record {
-      unresolved = refl;
-      no_run = refl;
-      placed = refl;
-      text = refl;
-      alignments = refl;
-      attributes = refl;
-      loose
-          = refl;
-    }
+footnote_names ix = search (arith)
 
 pub synthesized_names : (ix : CowIndex) → NamesText (body.SynthesizeText ix) ix.0
-synthesized_names ix =
-    record {
-      unresolved = refl;
-      no_run = refl;
-      placed = refl;
-      text = refl;
-      alignments = refl;
-      attributes = refl;
-      loose
-          = refl;
-    }
+synthesized_names ix = search (arith)
 
 -- the newest alignments may be named by a table
 pub table_placed : (few many : PartCounts) (ix : AlignmentIndex) → ix.0 ≡ few.alignments → many.alignments
     ≡ few.alignments + 1
     → many.texts ≡ few.texts
     → many.attributes ≡ few.attributes → MayBePlaced few many (body.Table ix)
-table_placed few many ix e alignments texts attributes = record {
-  more = record {
-    texts = omega (arith, texts);
-    alignments = omega (arith, alignments);
-    attributes = omega
-        (arith, attributes);
-  };
-  unresolved = refl;
-  no_run = refl;
-  placed = refl;
-  named = record { text = tt; alignments = omega (arith, e, alignments); attributes = tt };
-  texts = tt;
-  alignments = omega (arith, e);
-  loose = refl;
-}
+table_placed few many ix e alignments texts attributes = search (arith)
 
 -- the newest attributes may be named by a heading
 pub heading_placed : (few many : PartCounts) (level : HeadingLevel) (ix : HeadingIndex) → ix.0 ≡ many.attributes
     → many.attributes ≡ few.attributes + 1
     → many.texts ≡ few.texts → many.alignments ≡ few.alignments → MayBePlaced few many (body.Heading level (Some ix))
-heading_placed few many level ix e attributes texts alignments = record {
-  more = record {
-    texts = omega (arith, texts);
-    alignments = omega (arith, alignments);
-    attributes = omega
-        (arith, attributes);
-  };
-  unresolved = refl;
-  no_run = refl;
-  placed = refl;
-  named = record { text = tt; alignments = tt; attributes = (omega (arith, e, attributes), omega (arith, e)) };
-  texts = tt;
-  alignments = tt;
-  loose = refl;
-}
+heading_placed few many level ix e attributes texts alignments = search (arith)
 
 -- a thematic break is plain
 pub rule_plain : IsPlain body.Rule

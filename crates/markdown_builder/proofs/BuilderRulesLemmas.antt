@@ -11,7 +11,7 @@ use Rattle.markdown_base.specs.declared.node.Node.{Node}
 use Rattle.markdown_base.specs.ArenaForest.{links_of}
 use Rattle.markdown_base.specs.BlockTree.{Numbered, item_at, numbered}
 use Rattle.markdown_base.specs.Item.{is_inline, text_named, alignments_named}
-use Rattle.markdown_base.specs.WellFormed.{PartCounts, Precedes}
+use Rattle.markdown_base.specs.WellFormed.{PartCounts}
 use Rattle.markdown_base.proofs.WellFormedLemmas.{HasMore, named_more}
 use Rattle.markdown_builder.specs.Rising.{link_of, AreRising}
 use Rattle.markdown_builder.specs.BuilderRules.{NamesNew, MayReplace, ItemFits, LinkFits, KeepsNodes}
@@ -20,12 +20,7 @@ use Rattle.markdown_builder.proofs.NodeWriteLemmas.{Grows, Writes, item_beyond}
 
 -- two numbers are one, or they are not
 pub same_or_not : (i j : ℕ) → (i ≡ j) ⊎ (i ≡ j → ⊥)
-same_or_not i j =
-    ⊎_elim (λ (h : i < j). inr (λ e. absurd (omega (arith, h, e))))
-    (λ (h : j ≤ i). ⊎_elim (λ (k : j < i). inr (λ e. absurd (omega (arith, k, e))))
-    (λ (k : i ≤ j). inl (omega (arith, h, k)))
-    (cases_lt j i))
-    (cases_lt i j)
+same_or_not i j = grind (arith, cases_lt i j, cases_lt j i)
 
 -- two places are one, or they are not
 pub same_place : (d down : Bool) (i at : ℕ) → ((d ≡ down) × (i ≡ at)) ⊎ ((d ≡ down) × (i ≡ at) → ⊥)
@@ -61,44 +56,18 @@ append_rising : (old new : List (Node Item)) (down : Bool) (at : ℕ) (x : Item)
     → AreRising (links_of old)
     → Grows old new down at x
     → AreRising (links_of new)
-append_rising old new down at x low r g = record {
-  rises = λ d i j e. ⊎_elim
-      (λ (n : IsNewLink (length old) down d at i j). (omega (arith, n.from, n.to, low), omega (arith, n.to, g.size)))
-      (λ (o : link_of (links_of old) d i ≡ Some j). let p = r.rises d i j o in (p.0, omega (arith, p.1, g.size)))
-      (which_link old new down at x g d i j e);
-  once = λ d b i h j e f. ⊎_elim
-      (λ (n : IsNewLink (length old) down d at i j). ⊎_elim
-      (λ (m : IsNewLink (length old) down b at h j). (n.side ∙ sym m.side, n.from ∙ sym m.from))
-      (λ (o : link_of (links_of old) b h ≡ Some j). let p = r.rises b h j o in absurd (omega (arith, p.1, n.to)))
-      (which_link old new down at x g b h j f))
-      (λ (o : link_of (links_of old) d i ≡ Some j). ⊎_elim
-      (λ (m : IsNewLink (length old) down b at h j). let p = r.rises d i j o in absurd (omega (arith, p.1, m.to)))
-      (λ (q : link_of (links_of old) b h ≡ Some j). r.once d b i h j o q)
-      (which_link old new down at x g b h j f))
-      (which_link old new down at x g d i j e);
-}
+append_rising old new down at x low r g = search (arith, length, link_of, links_of, which_link, r.rises, r.once)
 
 -- other items stay, whatever the number
 pub same_item : (old new : List (Node Item)) (down : Bool) (at : ℕ) (x : Item) → Grows old new down at x → (i : ℕ)
     → (i ≡ length old → ⊥)
     → item_at new i ≡ item_at old i
-same_item old new down at x g i n =
-    ⊎_elim (λ (h : i < length old). g.old_items i h)
-    (λ (h : length old ≤ i). ⊎_elim (λ (k : length old < i). item_beyond new i (omega (arith, k, g.size))
-    ∙ sym (item_beyond old i h))
-    (λ (k : i ≤ length old). absurd (n (omega (arith, h, k)))) (cases_lt (length old) i))
-    (cases_lt i (length old))
+same_item old new down at x g i n = search (arith, length, item_beyond, cases_lt, g.old_items)
 
 -- an item fits where there are more parts
 pub fits_more : (text : List ℕ) (few many : PartCounts) (item : Item) → HasMore few many → ItemFits text few item
     → ItemFits text many item
-fits_more text few many item m f = record {
-  ranges_lie_in = f.ranges_lie_in;
-  nothing_resolved = f.nothing_resolved;
-  markup_is_there = f.markup_is_there;
-  parts_are_named = named_more few many item.body m f.parts_are_named;
-  blocks_are_settled = f.blocks_are_settled;
-}
+fits_more text few many item m f = assumption (named_more few many item.body m f.parts_are_named)
 
 -- what is true of a reference where there is one is true of this one
 of_name : (o : Option ℕ) (P : ℕ → Type 0) (t : ℕ) → IfSome o P → o ≡ Some t → P t
@@ -112,12 +81,7 @@ low_names : (name : ItemBody → Option ℕ) (nodes : List (Node Item)) (count :
     → (i t : ℕ) → name (item_at nodes i).body ≡ Some t → t < count
 low_names name nodes count none root low zero t e = let a : name (item_at nodes 0).body
     ≡ None = rw root none in cc (a, e)
-low_names name nodes count none root low (suc i) t e =
-    ⊎_elim (λ (h : suc i < length nodes). of_name (name (item_at nodes (suc i)).body) (λ ix. ix < count) t
-    (low (suc i) (omega arith) h) e)
-    (λ (h : length nodes ≤ suc i). let a : name (item_at nodes (suc i)).body ≡ None = rw (item_beyond nodes (suc i) h)
-    none in cc (a, e))
-    (cases_lt (suc i) (length nodes))
+low_names name nodes count none root low (suc i) t e = search (arith, length, of_name, item_at, item_beyond, cases_lt)
 
 -- entries are referred to once where a new item refers to a new one
 once_more : (name : ItemBody → Option ℕ) (old new : List (Node Item)) (down : Bool) (at : ℕ) (x : Item) (count : ℕ)
@@ -141,10 +105,10 @@ once_more name old new down at x count g low high once i j t e f =
     (same_or_not i (length old))
   where
     at_old : (i : ℕ) → (i ≡ length old → ⊥) → name (item_at new i).body ≡ Some t → name (item_at old i).body ≡ Some t
-    at_old i n e = subst (λ (y : Item). name y.body ≡ Some t) (same_item old new down at x g i n) e
+    at_old i n e = rw (same_item old new down at x g i n) at e
 
     at_new : (i : ℕ) → i ≡ length old → name (item_at new i).body ≡ Some t → name x.body ≡ Some t
-    at_new i q e = subst (λ (y : Item). name y.body ≡ Some t) (ap (λ (m : ℕ). item_at new m) q ∙ g.new_item) e
+    at_new i q e = rw (q, g.new_item) at e
 
 -- an append keeps all
 pub append_keeps : (text : List ℕ) (few many : PartCounts) (old new : List (Node Item)) (down : Bool) (at : ℕ)
@@ -157,12 +121,9 @@ append_keeps text few many old new down at x k g low more fits names link = reco
   rising = append_rising old new down at x low k.rising g;
   rooted = omega (arith, g.size);
   root = ap (λ (y : Item). y.body) (g.old_items 0 k.rooted) ∙ k.root;
-  items = λ i a b. ⊎_elim
-      (λ (q : i ≡ length old). subst (λ (y : Item). ItemFits text many y)
-      (sym (ap (λ (m : ℕ). item_at new m) q ∙ g.new_item)) fits)
-      (λ (q : i ≡ length old → ⊥). subst (λ (y : Item). ItemFits text many y) (sym (same_item old new down at x g i q))
-      (fits_more text few many (item_at old i) more (k.items i a (before i b q))))
-      (same_or_not i (length old));
+  items = λ i a b. ⊎_elim (λ (q : i ≡ length old). rw (q, g.new_item) fits)
+      (λ (q : i ≡ length old → ⊥). rw (same_item old new down at x g i q)
+      (fits_more text few many (item_at old i) more (k.items i a (before i b q)))) (same_or_not i (length old));
   links = λ d i j e. ⊎_elim (λ (n : IsNewLink (length old) down d at i j). new_fits d i j n)
       (λ (o : link_of (links_of old) d i ≡ Some j). old_fits d i j o)
       (which_link old new down at x g d i j e);
@@ -176,22 +137,17 @@ append_keeps text few many old new down at x k g low more fits names link = reco
 }
   where
     before : (i : ℕ) → i < length new → (i ≡ length old → ⊥) → i < length old
-    before i b q = ⊎_elim (λ (h : i < length old). h) (λ (h : length old ≤ i). absurd (q (omega (arith, h, b, g.size))))
-        (cases_lt i (length old))
+    before i b q = omega (arith, b, q, g.size)
 
     new_fits : (d : Bool) (i j : ℕ) → IsNewLink (length old) down d at i j
         → LinkFits d (numbered new i) (numbered new j)
     new_fits d i j n =
-        let a : item_at new i ≡ item_at old at = ap (λ (m : ℕ). item_at new m) n.from ∙ g.old_items at low in
-        let b : item_at new j ≡ x = ap (λ (m : ℕ). item_at new m) n.to ∙ g.new_item in
-        rw (a, b, n.side, n.from, n.to) link
+        rw (n.side, n.from, n.to, g.old_items at low, g.new_item) link
 
     old_fits : (d : Bool) (i j : ℕ) → link_of (links_of old) d i ≡ Some j → LinkFits d (numbered new i) (numbered new j)
     old_fits d i j o =
         let r = k.rising.rises d i j o in
-        let a : item_at new i ≡ item_at old i = g.old_items i (omega (arith, r.0, r.1)) in
-        let b : item_at new j ≡ item_at old j = g.old_items j r.1 in
-        rw (a, b) (k.links d i j o)
+        rw (g.old_items i (omega (arith, r.0, r.1)), g.old_items j r.1) (k.links d i j o)
 
 -- ---- a written item
 
@@ -199,39 +155,20 @@ append_keeps text few many old new down at x k g low more fits names link = reco
 pub fits_from : (d : Bool) (a b : Numbered) (c : Numbered) → a.number ≡ b.number → MayReplace a.item b.item
     → LinkFits d a c
     → LinkFits d b c
-fits_from true a b c e m l = record {
-  kind = l.kind ∙ sym m.leaf;
-  chains_are_kept = chain_of_one b.item.body c (m.childless ∙ parent_of_one a.item.body c l.chains_are_kept);
-}
-fits_from false a b c e m l = record {
-  kind = l.kind ∙ sym m.inline;
-  inline_in_order = λ h k. let i : is_inline a.item.body ≡ true = sym m.inline ∙ h in
-      let p : Precedes a c = l.inline_in_order i k in
-      record { ends = omega (arith, m.end i, p.ends); numbers = omega (arith, e, p.numbers) };
-}
+fits_from true a b c e m l = search (arith, chain_of_one, parent_of_one, b.item.body, a.item.body)
+fits_from false a b c e m l = search (arith, is_inline, l.inline_in_order, m.end)
 
 -- and at its end
 fits_to : (d : Bool) (a b : Numbered) (c : Numbered) → a.number ≡ b.number → MayReplace a.item b.item → LinkFits d c a
     → LinkFits d c b
-fits_to true a b c e m l = record {
-  kind = m.inline ∙ l.kind;
-  chains_are_kept = chain_of_one c.item.body b (parent_of_one c.item.body a l.chains_are_kept);
-}
-fits_to false a b c e m l = record {
-  kind = m.inline ∙ l.kind;
-  inline_in_order = λ h k. let i : is_inline a.item.body ≡ true = sym m.inline ∙ k in
-      let p : Precedes c a = l.inline_in_order h i in
-      record { ends = omega (arith, m.start i, p.ends); numbers = omega (arith, e, p.numbers) };
-}
+fits_to true a b c e m l = search (arith, chain_of_one, parent_of_one, c.item.body)
+fits_to false a b c e m l = search (arith, is_inline, l.inline_in_order, m.start)
 
 -- what holds of the item of a number still does, where it does of the one that is written there
 pub stays_fit : (P : Numbered → Type 0) (old new : List (Node Item)) (at i : ℕ) (x : Item) → Writes old new at x
     → (i ≡ at → P (record { number = i; item = x })) → P (numbered old i) → P (numbered new i)
-stays_fit P old new at i x w here elsewhere = ⊎_elim
-    (λ (q : i ≡ at). let e : item_at new i ≡ x = ap (λ (n : ℕ). item_at new n) q ∙ w.new_item in
-    subst (λ (y : Item). P (record { number = i; item = y })) (sym e) (here q))
-    (λ (q : i ≡ at → ⊥). subst (λ (y : Item). P (record { number = i; item = y })) (sym (w.old_items i q)) elsewhere)
-    (same_or_not i at)
+stays_fit P old new at i x w here elsewhere = ⊎_elim (λ (q : i ≡ at). rw (q, w.new_item) (rw q at (here q)))
+    (λ (q : i ≡ at → ⊥). rw (w.old_items i q) elsewhere) (same_or_not i at)
 
 -- a written item keeps all
 pub write_keeps : (text : List ℕ) (counts : PartCounts) (old new : List (Node Item)) (at : ℕ) (x : Item)
@@ -244,12 +181,8 @@ write_keeps text counts old new at x k w low fits m = record {
   };
   rooted = omega (arith, w.size, k.rooted);
   root = ap (λ (y : Item). y.body) (w.old_items 0 (λ e. absurd (omega (arith, e, low)))) ∙ k.root;
-  items = λ i a b. ⊎_elim
-      (λ (q : i ≡ at). subst (λ (y : Item). ItemFits text counts y) (sym (ap (λ (n : ℕ). item_at new n) q ∙ w.new_item))
-      fits)
-      (λ (q : i ≡ at → ⊥). subst (λ (y : Item). ItemFits text counts y) (sym (w.old_items i q))
-      (k.items i a (omega (arith, b, w.size))))
-      (same_or_not i at);
+  items = λ i a b. stays_fit (λ y. ItemFits text counts y.item) old new at i x w (λ q. fits)
+      (k.items i a (omega (arith, b, w.size)));
   links = λ d i j e. right d i j (left d i j (k.links d i j (sym (w.all_links d i) ∙ e)));
   texts = λ i j t e f. k.texts i j t (named_before text_named m.texts i t e) (named_before text_named m.texts j t f);
   alignments = λ i j t e f. k.alignments i j t (named_before alignments_named m.alignments i t e)
@@ -272,9 +205,6 @@ write_keeps text counts old new at x k w low fits m = record {
     named_before : (name : ItemBody → Option ℕ) → ((t : ℕ) → name x.body ≡ Some t → name (item_at old at).body ≡ Some t)
         → (i t : ℕ)
         → name (item_at new i).body ≡ Some t → name (item_at old i).body ≡ Some t
-    named_before name h i t e = ⊎_elim
-        (λ (q : i ≡ at). let here : item_at new i ≡ x = ap (λ (n : ℕ). item_at new n) q ∙ w.new_item in
-        subst (λ (n : ℕ). name (item_at old n).body ≡ Some t) (sym q)
-        (h t (sym (ap (λ (y : Item). name y.body) here) ∙ e)))
-        (λ (q : i ≡ at → ⊥). sym (ap (λ (y : Item). name y.body) (w.old_items i q)) ∙ e)
+    named_before name h i t e = ⊎_elim (λ (q : i ≡ at). rw q (h t (rw (q, w.new_item) at e)))
+        (λ (q : i ≡ at → ⊥). rw (w.old_items i q) at e)
         (same_or_not i at)

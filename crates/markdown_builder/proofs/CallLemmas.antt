@@ -1,8 +1,8 @@
 -- What each call of a builder keeps, by what its caller sees.
 use Rattle.std.specs.Prelude.{slice_index, slice_get, IfSome}
-use Rattle.std.proofs.Common.{◌≡◌, ℕ, suc, ◌+◌, ◌-◌, ◌<◌, ◌≤◌, List, [], ◌∷◌, ◌++◌, Option, Some, None, Bool, true}
+use Rattle.std.proofs.Common.{◌≡◌, ℕ, suc, ◌+◌, ◌-◌, ◌<◌, ◌≤◌, List, [], ◌∷◌, ◌++◌, Some, None, Bool, true}
 use Rattle.std.proofs.Common.{false, length, refl}
-use Rattle.std.proofs.Common.{sym, ap, ◌∙◌, subst, arith, ◌⊎◌, ⊎_elim}
+use Rattle.std.proofs.Common.{sym, ap, ◌∙◌, arith, ◌⊎◌, ⊎_elim}
 use Rattle.std.specs.Str.{IsCharBoundary}
 use Rattle.std.proofs.lemmas.Str.{IsCharBoundary-after_ascii}
 use Rattle.markdown_base.specs.declared.block_parts.LinkDef.{LinkDef}
@@ -19,7 +19,7 @@ use Rattle.markdown_base.specs.WellFormed.{PartCounts, source_of, is_delimiter}
 use Rattle.markdown_base.proofs.WellFormedLemmas.{HasMore}
 use Rattle.markdown_builder.specs.declared.open_block.OpenBlock.{OpenBlock}
 use Rattle.markdown_builder.specs.Bodies.{is_leaf, is_plain_block, is_settled, mark_byte}
-use Rattle.markdown_builder.specs.BuilderView.{IsWhite, IsRunOf, follows_run, innermost_block, LastHasBody, LastBegins}
+use Rattle.markdown_builder.specs.BuilderView.{IsWhite, IsRunOf, follows_run, innermost_block}
 use Rattle.markdown_builder.specs.Standing.{State, Standpoint, seen, open_item, with_item, AreOpen, IsSound}
 use Rattle.markdown_builder.specs.TreeLevels.{levels_of}
 use Rattle.markdown_builder.specs.TreeLevels.{with_closed}
@@ -45,11 +45,7 @@ use Rattle.markdown_builder.proofs.WrittenLemmas.{list_made_tight, changed, begu
 pub skip_keeps : {s : State} (now : Standpoint) (to : ℕ) → IsSound s → seen s ≡ now → now.at ≤ to
     → IsCharBoundary now.text to
     → (now.leaf ≡ false → now.blocks ≡ [] → IsWhite now.text now.at to) → IsSound (record s { at = to })
-skip_keeps {s} now to k e =
-    subst (λ (v : Standpoint). v.at ≤ to → IsCharBoundary v.text to
-    → (v.leaf ≡ false → v.blocks ≡ [] → IsWhite v.text v.at to)
-    → IsSound (record s { at = to })) e
-    (skipped s to k)
+skip_keeps {s} now to k e = rw (← e) (skipped s to k)
 
 -- a block that goes into the tree with its parts
 pub placed_keeps : {s : State} (now : Standpoint) (many : PartCounts) (b : ItemBody) → IsSound s → seen s ≡ now
@@ -75,12 +71,9 @@ refused_keeps {s} now many tree k e outside more =
       alignments = tt;
       loose = refl;
     } in
-    ⊎_elim (λ (q : tree ≡ s.tree). subst (λ (t : Arena Item). IsSound (record s { counts = many; tree = t })) (sym q)
-    (more_parts s many more k))
-    (λ (q : tree ≡ appended s.tree (item_over s.at s.at body.Paragraph)). subst
-    (λ (t : Arena Item). IsSound (record s { counts = many; tree = t }))
-    (sym q)
-    (opened_alone s many body.Paragraph s.run k (ap (λ (v : Standpoint). v.leaf) e ∙ outside) placed refl))
+    ⊎_elim (λ (q : tree ≡ s.tree). rw q (more_parts s many more k))
+    (λ (q : tree ≡ appended s.tree (item_over s.at s.at body.Paragraph)).
+    rw q (opened_alone s many body.Paragraph s.run k (ap (λ (v : Standpoint). v.leaf) e ∙ outside) placed refl))
 
 -- a block that names the text which was pushed: it goes into the tree
 pub named_keeps : {s : State} (now : Standpoint) (many : PartCounts) (b : ItemBody) (ix : CowIndex) → IsSound s → seen s
@@ -104,9 +97,7 @@ pub inline_keeps : {s : State} (now : Standpoint) (end : ℕ) (b : ItemBody) →
     ≡ true
     → now.leaf ≡ true → now.at ≤ end
     → IsCharBoundary now.text end → IsSound (after_item s s.counts end b None)
-inline_keeps {s} now end b k e h =
-    subst (λ (v : Standpoint). v.leaf ≡ true → v.at ≤ end → IsCharBoundary v.text end
-    → IsSound (after_item s s.counts end b None)) e
+inline_keeps {s} now end b k e h = rw (← e)
     (λ within low boundary.
     let placed = plain_placed s.counts b (settled_plain b h) in
     added s s.counts end b None k placed.more
@@ -131,8 +122,7 @@ pub innermost_open : (s : State) (rest : List OpenBlock) (block : OpenBlock) →
     → (outer : List ℕ) × (n : ℕ) × (s.tree.spine ≡ outer ++ n ∷ [])
 innermost_open s rest block k e =
     spine_last s.tree.nodes s.tree.spine rest block
-    (subst (λ (x : List OpenBlock). AreOpen s.tree.nodes s.tree.spine x) e
-    k.stands.are_open)
+    (rw e at k.stands.are_open)
 
 -- `close`
 pub close_left : {s : State} (rest : List OpenBlock) (block : OpenBlock) (new : Arena Item) → IsSound s → s.blocks
@@ -150,9 +140,7 @@ close_left {s} rest block new k e left =
     let made = left l.0 l.1 l.2 in (
       l.1,
       ap (λ (t : Arena Item). t.cursor) made,
-      subst (λ (t : Arena Item). IsLeft l.1 (record s { tree = t; blocks = rest; leaf = false; run = None }))
-          (sym made)
-          (closed s l.0 rest l.1 block k e l.2),
+      rw made (closed s l.0 rest l.1 block k e l.2),
     )
 
 -- the tree then
@@ -168,9 +156,7 @@ left_tree : {s : State} (rest : List OpenBlock) (block : OpenBlock) (new : Arena
     → IsLeftTree s.tree new (innermost_open s rest block k e).1 (item_over block.start s.at block.body)
 left_tree {s} rest block new k e left =
     let i = innermost_open s rest block k e in
-    let x = item_over block.start s.at block.body in
-    subst (λ (t : Arena Item). IsLeftTree s.tree t i.1 x) (sym (left i.0 i.1 i.2))
-    (leave_laid s.tree i.0 i.1 x k.laid i.2)
+    rw (left i.0 i.1 i.2) (leave_laid s.tree i.0 i.1 (item_over block.start s.at block.body) k.laid i.2)
 
 pub close_keeps : {s : State} (rest : List OpenBlock) (block : OpenBlock) (new tree : Arena Item) → IsSound s
     → s.blocks ≡ rest ++ block ∷ []
@@ -213,9 +199,7 @@ close_levels_of {s} rest block new tree k e left tightens =
 pub rule_keeps : {s : State} (now : Standpoint) (end : ℕ) → IsSound s → seen s ≡ now → now.leaf ≡ false → now.at ≤ end
     → IsCharBoundary now.text end
     → IsSound (after_item s s.counts end body.Rule None)
-rule_keeps {s} now end k e =
-    subst (λ (v : Standpoint). v.leaf ≡ false → v.at ≤ end → IsCharBoundary v.text end
-    → IsSound (after_item s s.counts end body.Rule None)) e
+rule_keeps {s} now end k e = rw (← e)
     (λ outside low boundary. let placed = plain_placed s.counts body.Rule rule_plain in
     added s s.counts end body.Rule None k placed.more
     (placed_fits s.text s.counts s.counts s.at end body.Rule placed tt
@@ -228,9 +212,7 @@ pub synthesize_keeps : {s : State} (now : Standpoint) (many : PartCounts) (end :
     → ix.0 ≡ s.counts.texts
     → one_text_more s.counts many → now.leaf ≡ true → now.at ≤ end → IsCharBoundary now.text end
     → IsSound (after_item s many end (body.SynthesizeText ix) None)
-synthesize_keeps {s} now many end ix k e n more =
-    subst (λ (v : Standpoint). v.leaf ≡ true → v.at ≤ end → IsCharBoundary v.text end
-    → IsSound (after_item s many end (body.SynthesizeText ix) None)) e
+synthesize_keeps {s} now many end ix k e n more = rw (← e)
     (λ within low boundary. let placed = text_placed s.counts many (body.SynthesizeText ix) ix.0 n more
     (synthesized_names ix) in
     added s many end (body.SynthesizeText ix) None k placed.more
@@ -240,11 +222,7 @@ synthesize_keeps {s} now many end ix k e n more =
 
 -- a text that was pushed, and that nothing refers to
 pub one_more_text : (few many : PartCounts) → one_text_more few many → HasMore few many
-one_more_text few many more = record {
-  texts = omega (arith, more.0);
-  alignments = omega (arith, more.1);
-  attributes = omega (arith, more.2);
-}
+one_more_text few many more = search (arith)
 
 pub pushed_keeps : {s : State} (many : PartCounts) → IsSound s → one_text_more s.counts many
     → IsSound (record s { counts = many })
@@ -254,9 +232,7 @@ pushed_keeps {s} many k more = more_parts s many (one_more_text s.counts many mo
 pub mark_keeps : {s : State} (now : Standpoint) (b : ItemBody) → IsSound s → seen s ≡ now → now.leaf ≡ true
     → now.at < length now.text
     → mark_byte b ≡ Some (slice_index now.text now.at) → IsSound (after_item s s.counts (s.at + 1) b None)
-mark_keeps {s} now b k e =
-    subst (λ (v : Standpoint). v.leaf ≡ true → v.at < length v.text → mark_byte b ≡ Some (slice_index v.text v.at)
-    → IsSound (after_item s s.counts (s.at + 1) b None)) e
+mark_keeps {s} now b k e = rw (← e)
     (λ within low byte. let m = mark_facts b (slice_index s.text s.at) byte in
     let placed = plain_placed s.counts b m.plain in
     added s s.counts (s.at + 1) b None k placed.more
@@ -274,10 +250,7 @@ pub image_keeps : {s : State} (now : Standpoint) → IsSound s → seen s ≡ no
     → now.at + 1 < length now.text
     → slice_index now.text now.at ≡ 33 → slice_index now.text (now.at + 1) ≡ 91
     → IsSound (after_item s s.counts (s.at + 2) body.MaybeImage None)
-image_keeps {s} now k e =
-    subst (λ (v : Standpoint). v.leaf ≡ true → v.at + 1 < length v.text → slice_index v.text v.at ≡ 33
-    → slice_index v.text (v.at + 1) ≡ 91
-    → IsSound (after_item s s.counts (s.at + 2) body.MaybeImage None)) e (λ within low first second.
+image_keeps {s} now k e = rw (← e) (λ within low first second.
     let placed = plain_placed s.counts body.MaybeImage (plain refl refl refl refl refl refl refl) in
     let end : IsCharBoundary s.text ((s.at + 1) + 1) = IsCharBoundary-after_ascii s.text (s.at + 1) k.utf8 low
     (omega (arith, second)) in
@@ -288,7 +261,7 @@ image_keeps {s} now k e =
     (record {
       ordered = omega arith;
       start = k.stands.boundary;
-      end = subst (λ (p : ℕ). IsCharBoundary s.text p) two end;
+      end = rw two at end;
     }))
     (placed_new s.counts s.counts s.at (s.at + 2) body.MaybeImage placed) (sym within) refl refl)
 
@@ -297,9 +270,7 @@ pub backticks_keeps : {s : State} (now : Standpoint) (end : ℕ) (escaped : Bool
     ≡ true
     → IsRunOf 96 now.text now.at end
     → IsSound (after_item s s.counts end (body.MaybeCode (end - s.at) escaped) None)
-backticks_keeps {s} now end escaped k e =
-    subst (λ (v : Standpoint). v.leaf ≡ true → IsRunOf 96 v.text v.at end
-    → IsSound (after_item s s.counts end (body.MaybeCode (end - s.at) escaped) None)) e
+backticks_keeps {s} now end escaped k e = rw (← e)
     (λ within run. let b = body.MaybeCode (end - s.at) escaped in
     let placed = plain_placed s.counts b (plain refl refl refl refl refl refl refl) in
     added s s.counts end b None k placed.more
@@ -322,15 +293,13 @@ pub record RunMayCome (now : Standpoint) (byte end : ℕ) : Type 0 where
 -- the Texts of a run so far
 run_texts : (s : State) (byte end count : ℕ) → IsSound s → RunMayCome (seen s) byte end → s.at + count ≤ end
     → TextsStand s byte count (texts_appended s.tree s.at count)
-run_texts s byte end count k may low = texts_stand s byte end count k may.inside may.whole
-    (delimiter_ascii byte may.delimiter) may.other
-    low
+run_texts s byte end count k may low = search (arith, texts_stand, delimiter_ascii, may.inside)
 
 -- there are nodes enough to make characters of
 pub run_nodes : {s : State} (now : Standpoint) (byte end : ℕ) → IsSound s → seen s ≡ now → RunMayCome now byte end
     → end - s.at ≤ length (texts_appended s.tree s.at (end - s.at)).nodes
 run_nodes {s} now byte end k e may =
-    let here : RunMayCome (seen s) byte end = subst (λ (v : Standpoint). RunMayCome v byte end) (sym e) may in
+    let here : RunMayCome (seen s) byte end = rw e may in
     let p = run_texts s byte end (end - s.at) k here (omega (arith, here.whole.more)) in omega (arith, p.size)
 
 -- after an error, some of the run's bytes are Texts
@@ -339,7 +308,7 @@ pub run_refused : {s : State} (now : Standpoint) (byte end count : ℕ) → IsSo
     → s.at + count ≤ end
     → IsSound (record s { tree = texts_appended s.tree s.at count; at = end })
 run_refused {s} now byte end count k e may low =
-    let here : RunMayCome (seen s) byte end = subst (λ (v : Standpoint). RunMayCome v byte end) (sym e) may in
+    let here : RunMayCome (seen s) byte end = rw e may in
     let p = run_texts s byte end count k here low in
     let ascii = delimiter_ascii byte here.delimiter in
     skipped (record s { tree = texts_appended s.tree s.at count; at = s.at + count }) end p.sound low
@@ -356,7 +325,7 @@ pub run_keeps : {s : State} (now : Standpoint) (byte end : ℕ) (opens closes : 
           Some byte;
     })
 run_keeps {s} now byte end opens closes k e may =
-    let here : RunMayCome (seen s) byte end = subst (λ (v : Standpoint). RunMayCome v byte end) (sym e) may in
+    let here : RunMayCome (seen s) byte end = rw e may in
     run_sound s byte end (end - s.at) opens closes k here.inside here.whole here.delimiter here.other
     (omega (arith, here.whole.more))
 
@@ -366,10 +335,7 @@ pub define_keeps : {s : State} (now : Standpoint) (to : ℕ) (d : CowStr × Link
     → IsCharBoundary now.text to
     → slice_index now.text now.at ≡ 91 → d.1.span ≡ record { start = s.at; end = to }
     → IsSound (record s { definitions = s.definitions ++ d ∷ []; at = to })
-define_keeps {s} now to d k e =
-    subst (λ (v : Standpoint). v.at ≤ to → IsCharBoundary v.text to → slice_index v.text v.at ≡ 91
-    → d.1.span ≡ record { start = s.at; end = to }
-    → IsSound (record s { definitions = s.definitions ++ d ∷ []; at = to })) e (defined s to d k)
+define_keeps {s} now to d k e = rw (← e) (defined s to d k)
 
 -- two lists that end with a block are one
 last_same : (xs ys : List OpenBlock) (x y : OpenBlock) → xs ++ x ∷ [] ≡ ys ++ y ∷ [] → (xs ≡ ys) × (x ≡ y)
@@ -434,15 +400,6 @@ change_keeps {s} now inner b blocks new k e h leaf last replace write =
     p.alignments
     (block_parent b h))
 
--- it has the other body
-pub body_changed : (old new : List OpenBlock) (inner : OpenBlock) (b : ItemBody) → Some inner ≡ innermost_block old
-    → IsReplaced old new (record inner { body = b })
-    → LastHasBody old new b
-body_changed old new inner b last replace outer block h =
-    let r = ends_with old inner last in
-    let same = last_same r.outer outer inner block (sym r.whole ∙ h) in
-    replace outer block h ∙ rw same.1 refl
-
 -- `begin_later`
 pub begin_later_keeps : {s : State} (now : Standpoint) (inner : OpenBlock) (start : ℕ) (blocks : List OpenBlock)
     (new : Arena Item) → IsSound s → seen s ≡ now
@@ -451,24 +408,11 @@ pub begin_later_keeps : {s : State} (now : Standpoint) (inner : OpenBlock) (star
     → Some inner ≡ innermost_block s.blocks → IsReplaced s.blocks blocks (record inner { start = start })
     → IsRewritten s.tree new (record inner { start = start }) → IsSound (record s { tree = new; blocks = blocks })
 begin_later_keeps {s} now inner start blocks new k e low boundary white last replace write =
-    subst (λ (v : Standpoint). start ≤ v.at → IsCharBoundary v.text start
-    → IfSome (innermost_block v.blocks) (λ block. IsWhite v.text block.start start)
-    → IsSound (record s { tree = new; blocks = blocks })) e (λ here between after.
     let r = ends_with s.blocks inner last in
     let l = innermost_open s r.outer inner k r.whole in
     rw (replace r.outer inner r.whole, write l.0 l.1 l.2)
-    (begun_later s l.0 r.outer l.1 inner start k r.whole l.2 here between
-    (subst (λ (o : Option OpenBlock). IfSome o (λ block. IsWhite s.text block.start start)) (sym last) after))) low
-    boundary white
-
--- it begins there
-pub start_changed : (old new : List OpenBlock) (inner : OpenBlock) (start : ℕ) → Some inner ≡ innermost_block old
-    → IsReplaced old new (record inner { start = start })
-    → LastBegins old new start
-start_changed old new inner start last replace outer block h =
-    let r = ends_with old inner last in
-    let same = last_same r.outer outer inner block (sym r.whole ∙ h) in
-    replace outer block h ∙ rw same.1 refl
+    (begun_later s l.0 r.outer l.1 inner start k r.whole l.2 (rw (← e) at low) (rw (← e) at boundary)
+    (rw (← last) at (rw (← e) at white)))
 
 -- `finish`
 none_entered : (nodes : List (Node Item)) (spine : List ℕ) → AreOpen nodes spine [] → spine ≡ []
@@ -477,8 +421,7 @@ none_entered nodes (s ∷ spine) o = absurd o
 
 pub finish_spine : {s : State} (now : Standpoint) → IsSound s → seen s ≡ now → now.blocks ≡ [] → s.tree.spine ≡ []
 finish_spine {s} now k e closed = none_entered s.tree.nodes s.tree.spine
-    (subst (λ (b : List OpenBlock). AreOpen s.tree.nodes s.tree.spine b) (ap (λ (v : Standpoint). v.blocks) e ∙ closed)
-    k.stands.are_open)
+    (rw (ap (λ (v : Standpoint). v.blocks) e ∙ closed) at k.stands.are_open)
 
 pub finish_tight : {s : State} (now : Standpoint) → IsSound s → seen s ≡ now → now.blocks ≡ []
     → TightInTightLists s.tree.nodes

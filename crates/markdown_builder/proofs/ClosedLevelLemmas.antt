@@ -1,6 +1,6 @@
 -- A block that is left becomes the last tree of the level around it, and a tight list's paragraphs are made tight.
 use Rattle.std.proofs.Common.{◌≡◌, ℕ, ◌+◌, List, [], ◌∷◌, ◌++◌, Option, Some, None, Bool, true, false}
-use Rattle.std.proofs.Common.{length, refl, sym, ap, ◌∙◌, subst, arith}
+use Rattle.std.proofs.Common.{length, refl, sym, ap, ◌∙◌, arith}
 use Rattle.std.specs.Prelude.{cond}
 use Rattle.std.proofs.lemmas.List.{length-append, append_assoc}
 use Rattle.markdown_base.specs.declared.item.Item.{Item}
@@ -53,16 +53,7 @@ last_apart : (frames : List Frame) (before : Forest Item) (x : Item) (below : Fo
     (l : Option ℕ) → n ≡ number_after frames before → m ≡ n + 1 → l ≡ link None (n + 1) below
     → (laid_out frames (followed_by before (node x below nil))).nodes
     ≡ (ahead frames before ++ record { item = x; child = l; next = None } ∷ []) ++ (laid None m below ++ [])
-last_apart frames before x below n m l e size first =
-    laid_last frames before x below nil
-    ∙ (ap (λ j. ahead frames before
-    ++ record { item = x; child = link None (j + 1) below; next = None } ∷ (laid None (j + 1) below ++ [])) (sym e)
-    ∙ (ap (λ (i : Option ℕ). ahead frames before
-    ++ record { item = x; child = i; next = None } ∷ (laid None (n + 1) below ++ [])) (sym first)
-    ∙ (sym (append_assoc (ahead frames before) (record { item = x; child = l; next = None } ∷ [])
-    (laid None (n + 1) below ++ []))
-    ∙ ap (λ j. (ahead frames before ++ record { item = x; child = l; next = None } ∷ []) ++ (laid None j below ++ []))
-    (sym size))))
+last_apart frames before x below n m l e size first = search (arith, laid_last, nil, ahead, link, laid, append_assoc)
 
 -- the paragraphs of a tight list that was left
 pub tighten_laid : (frames : List Frame) (before : Forest Item) (y : Item) (below : Forest Item) (new : Arena Item)
@@ -105,11 +96,7 @@ pub close_laid : (first old new : Arena Item) (ix : ℕ) (y : Item) (k : IsLeftT
     → TightensList ix old new
     → new ≡ laid_out k.frames (followed_by k.before (node y (below_closed y k.below) nil))
 close_laid first old new ix y k t =
-    let moved : TightensList (number_after k.frames k.before)
-    (laid_out k.frames (followed_by k.before (node y k.below nil))) new =
-    subst (λ (n : ℕ). TightensList n (laid_out k.frames (followed_by k.before (node y k.below nil))) new) (sym k.number)
-    (subst (λ (a : Arena Item). TightensList ix a new) k.is t) in
-    tighten_laid k.frames k.before y k.below new moved
+    search (arith, number_after, laid_out, followed_by, node, nil, tighten_laid, k.frames, k.before, k.below, k.is)
 
 pub close_is_laid : (first old new : Arena Item) (ix : ℕ) (y : Item) → IsLeftTree first old ix y
     → TightensList ix old new → IsLaidOut new

@@ -1,5 +1,6 @@
 -- Tight lists, open and closed: what an append, a written item and a closed block make of them.
-use Rattle.std.proofs.Common.{◌≡◌, ℕ, suc, ◌<◌, ◌≤◌, List, [], ◌∷◌, ◌++◌, Option, Some, None, Bool, true, false, length}
+use Rattle.std.proofs.Common.{zero, ◌≡◌, ℕ, suc, ◌<◌, ◌≤◌, List, [], ◌∷◌, ◌++◌, Option}
+use Rattle.std.proofs.Common.{Some, None, Bool, true, false, length}
 use Rattle.std.proofs.Common.{refl, sym, ap, ◌∙◌, subst}
 use Rattle.std.proofs.Common.{arith, ◌⊎◌, inl, inr, ⊎_elim}
 use Rattle.std.specs.Prelude.{IfSome}
@@ -12,7 +13,7 @@ use Rattle.markdown_base.specs.declared.node.Node.{Node}
 use Rattle.markdown_base.specs.Arena.{Arena, child_of, sibling_of}
 use Rattle.markdown_base.specs.ArenaChanges.{innermost}
 use Rattle.markdown_base.specs.ArenaForest.{links_of}
-use Rattle.markdown_base.specs.BlockTree.{item_at, no_item}
+use Rattle.markdown_base.specs.BlockTree.{item_at}
 use Rattle.markdown_base.specs.Item.{is_tight_paragraph}
 use Rattle.markdown_base.proofs.ArenaLemmas.{All-snoc, All-front, All-last}
 use Rattle.markdown_base.proofs.ForestLemmas.{All-weaker}
@@ -63,10 +64,7 @@ items_after_item nodes r list item c =
 
 pub inside_after : (nodes : List (Node Item)) → AreRising (links_of nodes) → (list p : ℕ) → IsInItemOf nodes list p
     → list < p
-inside_after nodes r list p i =
-    let item = items_after_item nodes r list i.item i.listed in
-    let inside = items_after_item nodes r i.item p i.inside in
-    omega (arith, item, inside)
+inside_after nodes r list p i = search (arith, items_after_item, i.item, i.listed, i.inside)
 
 -- what a link leads to is a node
 link_within : (nodes : List (Node Item)) → AreRising (links_of nodes) → (d : Bool) (i : ℕ)
@@ -88,32 +86,21 @@ chain_within nodes r l p h (later_in q _ c) =
 -- no node between a closed list and its end is open
 not_open_inside : (list end p : ℕ) (spine : List ℕ) → AllByRecursion (λ s. (s < list) ⊎ (end ≤ s)) spine → list ≤ p
     → p < end → IsNotOpen spine p
-not_open_inside list end p spine around low high =
-    All-weaker (λ s. (s < list) ⊎ (end ≤ s)) (λ s. s ≡ p → ⊥)
-    (λ s o e. ⊎_elim (λ (h : s < list). omega (arith, h, e, low)) (λ (h : end ≤ s). omega (arith, h, e, high)) o)
-    spine around
+not_open_inside list end p spine around low high = search (arith, All-weaker)
 
 -- what holds of 0 and of all numbers of a spine holds of the innermost
 innermost_has : (P : ℕ → Type 0) → P 0 → (spine : List ℕ) → AllByRecursion P spine → P (innermost spine)
-innermost_has P zero [] a = zero
-innermost_has P zero (s ∷ []) a = a.0
-innermost_has P zero (s ∷ t ∷ spine) a = innermost_has P zero (t ∷ spine) a.1
+innermost_has P here [] a = here
+innermost_has P here (s ∷ []) a = a.0
+innermost_has P here (s ∷ t ∷ spine) a = innermost_has P here (t ∷ spine) a.1
 
 -- nothing is appended inside a closed list
 place_outside : (nodes : List (Node Item)) (spine : List ℕ) (cursor : Option ℕ) (list : ℕ) → 0 < list
     → (c : IsClosed nodes spine cursor list)
     → (d : Bool) (i : ℕ) → list ≤ i → i < c.end → (d ≡ false → list < i)
     → (d ≡ place_down cursor) × (i ≡ place_at spine cursor) → ⊥
-place_outside nodes spine None list positive c d i low high after e =
-    let at = e.1 in
-    ⊎_elim (λ (h : innermost spine < list). omega (arith, h, at, low))
-    (λ (h : c.end ≤ innermost spine). omega (arith, h, at, high))
-    (innermost_has (λ s. (s < list) ⊎ (c.end ≤ s)) (inl positive) spine c.around)
-place_outside nodes spine (Some before) list positive c d i low high after e =
-    let at = e.1 in
-    let more = after e.0 in
-    ⊎_elim (λ (h : before ≤ list). omega (arith, h, at, more)) (λ (h : c.end ≤ before). omega (arith, h, at, high))
-    c.focus
+place_outside nodes spine None list positive c d i low high after e = search (arith, innermost, innermost_has, inl, e.1)
+place_outside nodes spine (Some before) list positive c d i low high after e = search (arith, e.1, e.0)
 
 -- ---- an append
 
@@ -121,42 +108,34 @@ place_outside nodes spine (Some before) list positive c d i low high after e =
 chain_back : (old new : List (Node Item)) (down : Bool) (at : ℕ) (x : Item) → Grows old new down at x
     → (l now : Option ℕ) (p : ℕ) → now ≡ l
     → ((q : ℕ) → IsInChain old l q → (false ≡ down) × (q ≡ at) → ⊥) → IsInChain new now p → IsInChain old l p
-chain_back old new down at x g l now p e away (first_of _) = subst (λ (o : Option ℕ). IsInChain old o p) e (first_of p)
+chain_back old new down at x g l now p e away (first_of _) = rw (← e) (first_of p)
 chain_back old new down at x g l now p e away (later_in q _ c) =
-    let same : sibling_of new q ≡ sibling_of old q = g.other_links false q
-    (away q (subst (λ (o : Option ℕ). IsInChain old o q) e (first_of q))) in
-    subst (λ (o : Option ℕ). IsInChain old o p) e
-    (later_in q p (chain_back old new down at x g (sibling_of old q) (sibling_of new q) p same
-    (λ r i. away r (subst (λ (o : Option ℕ). IsInChain old o r) e (later_in q r i))) c))
+    let same : sibling_of new q ≡ sibling_of old q = g.other_links false q (away q (rw (← e) (first_of q))) in
+    rw (← e) (later_in q p (chain_back old new down at x g (sibling_of old q) (sibling_of new q) p same
+    (λ r i. away r (rw (← e) (later_in q r i))) c))
 
 -- a link that leads into a chain stays
 link_stays : (old new : List (Node Item)) (down : Bool) (at : ℕ) (x : Item) → Grows old new down at x
     → link_of (links_of old) down at ≡ None
     → (d : Bool) (i p : ℕ) → IsInChain old (link_of (links_of old) d i) p
     → link_of (links_of new) d i ≡ link_of (links_of old) d i
-link_stays old new down at x g free d i p c = ⊎_elim
-    (λ (e : (d ≡ down) × (i ≡ at)). absurd (nothing_in old (link_of (links_of old) d i) p
-    (λ n q. let none : link_of (links_of old) d i ≡ None = rw (e.0, e.1) free in cc (none, q)) c))
-    (λ (n : (d ≡ down) × (i ≡ at) → ⊥). g.other_links d i n)
-    (same_place d down i at)
+link_stays old new down at x g free d i p c = search (arith, nothing_in, link_of, links_of, same_place, g.other_links)
 
 -- what was in a chain is in it
 chain_on : (old new : List (Node Item)) (down : Bool) (at : ℕ) (x : Item) → Grows old new down at x
     → link_of (links_of old) down at ≡ None → (l : Option ℕ) (p : ℕ) → IsInChain old l p → IsInChain new l p
 chain_on old new down at x g free l p (first_of _) = first_of p
 chain_on old new down at x g free l p (later_in q _ c) =
-    later_in q p (subst (λ (o : Option ℕ). IsInChain new o p) (sym (link_stays old new down at x g free false q p c))
-    (chain_on old new down at x g free (sibling_of old q) p c))
+    later_in q p (rw (link_stays old new down at x g free false q p c) (chain_on old new down at x g free
+    (sibling_of old q) p c))
 
 item_on : (old new : List (Node Item)) (down : Bool) (at : ℕ) (x : Item) → Grows old new down at x
     → link_of (links_of old) down at ≡ None → (list p : ℕ) → IsInItemOf old list p → IsInItemOf new list p
 item_on old new down at x g free list p i = record {
   item = i.item;
-  listed = subst (λ (o : Option ℕ). IsInChain new o i.item)
-      (sym (link_stays old new down at x g free true list i.item i.listed))
+  listed = rw (link_stays old new down at x g free true list i.item i.listed)
       (chain_on old new down at x g free (child_of old list) i.item i.listed);
-  inside = subst (λ (o : Option ℕ). IsInChain new o p)
-      (sym (link_stays old new down at x g free true i.item p i.inside))
+  inside = rw (link_stays old new down at x g free true i.item p i.inside)
       (chain_on old new down at x g free (child_of old i.item) p i.inside);
 }
 
@@ -205,17 +184,13 @@ holds_no_more old new spine cursor x list r g positive c = record {
 tight_within : (nodes : List (Node Item)) (list : ℕ) → is_tight_list (item_at nodes list).body ≡ true
     → list < length nodes
 tight_within nodes list t = ⊎_elim (λ (h : list < length nodes). h)
-    (λ (h : length nodes ≤ list). let none : item_at nodes list ≡ no_item = item_beyond nodes list h in
-    absurd (not_both t (ap (λ (y : Item). is_tight_list y.body) none)))
-    (cases_lt list (length nodes))
+    (λ (h : length nodes ≤ list). absurd (not_both t (rw (item_beyond nodes list h)))) (cases_lt list (length nodes))
 
 -- nor does the root
 tight_positive : (nodes : List (Node Item)) (list : ℕ) → (item_at nodes 0).body ≡ body.Root
     → is_tight_list (item_at nodes list).body ≡ true → 0 < list
-tight_positive nodes list root t = ⊎_elim (λ (h : 0 < list). h)
-    (λ (h : list ≤ 0). let z : list ≡ 0 = omega (arith, h) in
-    absurd (not_both t (ap (λ (n : ℕ). is_tight_list (item_at nodes n).body) z ∙ ap is_tight_list root)))
-    (cases_lt 0 list)
+tight_positive nodes zero root t = absurd (not_both t (rw root))
+tight_positive nodes (suc list) root t = omega arith
 
 -- the numbers that were closed stay so where the new node is the only one that may be open or in focus now
 record OpensOnly (n : ℕ) (few many : List ℕ) (cursor : Option ℕ) : Type 0 where
@@ -235,37 +210,32 @@ lists_more : (old new : List (Node Item)) (spine many : List ℕ) (cursor now : 
     → (IsNotOpen many (length old) → IsClosed new many now (length old))
     → ListsAreTight (record { nodes = new; spine = many; cursor = now })
 lists_more old new spine many cursor now x r root g free k loose opens last = record {
-  lists = λ list t o. ⊎_elim
-      (λ (e : list ≡ n). subst (λ (m : ℕ). IsClosed new many now m) (sym e)
-      (last (subst (λ (m : ℕ). IsNotOpen many m) e o)))
+  lists = λ list t o. ⊎_elim (λ (e : list ≡ n). rw e (last (rw e at o)))
       (λ (e : list ≡ n → ⊥).
-      let was = ap (λ (y : Item). is_tight_list y.body) (sym (same list e)) ∙ t in
-      let c = k.lists list was (opens.was list o) in
-      let no_more = holds_no_more old new spine cursor x list r g (tight_positive old list root was) c in
-      let high = c.high in
+      let c = k.lists list (rw (same list e) at t) (opens.was list o) in
+      let no_more = holds_no_more old new spine cursor x list r g
+      (tight_positive old list root (rw (same list e) at t)) c in
+      let high : c.end ≤ length new = omega (arith, c.high, g.size) in
       record {
         end = c.end;
         low = c.low;
-        high = omega (arith, high, g.size);
-        around = opens.around list c.end high c.around;
-        focus = opens.focus list c.end high;
+        high = high;
+        around = opens.around list c.end c.high c.around;
+        focus = opens.focus list c.end c.high;
         items = λ item i. c.items item (no_more.items item i);
         inside = λ p i. c.inside p (no_more.inside p i);
         tight = λ p i q. let inside = c.inside p (no_more.inside p i) in
-            c.tight p (no_more.inside p i)
-            (ap (λ (y : Item). y.body) (sym (same p (λ z. omega (arith, z, inside, high)))) ∙ q);
+            c.tight p (no_more.inside p i) (rw (same p (λ z. omega (arith, z, inside, c.high))) at q);
       })
       (same_or_not list n);
   only = λ p q. ⊎_elim
-      (λ (e : p ≡ n). absurd (not_both (ap is_tight_paragraph q)
-      (ap (λ (m : ℕ). is_tight_paragraph (item_at new m).body) e
-      ∙ (ap (λ (y : Item). is_tight_paragraph y.body) g.new_item ∙ loose))))
+      (λ (e : p ≡ n). absurd (not_both (ap is_tight_paragraph q) (rw (e, g.new_item) loose)))
       (λ (e : p ≡ n → ⊥).
-      let w = k.only p (ap (λ (y : Item). y.body) (sym (same p e)) ∙ q) in
+      let w = k.only p (rw (same p e) at q) in
       let low = tight_within old w.list w.tight in
       record {
         list = w.list;
-        tight = ap (λ (y : Item). is_tight_list y.body) (same w.list (λ z. omega (arith, z, low))) ∙ w.tight;
+        tight = rw (same w.list (λ z. omega (arith, z, low))) w.tight;
         closed = opens.is w.list low w.closed;
         inside = item_on old new (place_down cursor) (place_at spine cursor) x g free w.list p w.inside;
       })
@@ -348,17 +318,14 @@ pub lists_written : (old new : List (Node Item)) (spine : List ℕ) (cursor : Op
     → ListsAreTight (record { nodes = new; spine = spine; cursor = cursor })
 lists_written old new spine cursor at x r w k loose plain = record {
   lists = λ list t o. ⊎_elim
-      (λ (e : list ≡ at). absurd (not_both t
-      (ap (λ (m : ℕ). is_tight_list (item_at new m).body) e
-      ∙ (ap (λ (y : Item). is_tight_list y.body) w.new_item
-      ∙ (plain (subst (λ (m : ℕ). IsNotOpen spine m) e o)).1))))
+      (λ (e : list ≡ at). absurd (not_both t (rw (e, w.new_item) (plain (rw e at o)).1)))
       (λ (e : list ≡ at → ⊥).
-      let c = k.lists list (ap (λ (y : Item). is_tight_list y.body) (sym (w.old_items list e)) ∙ t) o in
-      let high = c.high in
+      let c = k.lists list (rw (w.old_items list e) at t) o in
+      let high : c.end ≤ length new = omega (arith, c.high, w.size) in
       record {
         end = c.end;
         low = c.low;
-        high = omega (arith, high, w.size);
+        high = high;
         around = c.around;
         focus = c.focus;
         items = λ item i. c.items item (items list item i);
@@ -366,29 +333,20 @@ lists_written old new spine cursor at x r w k loose plain = record {
         tight = λ p i q. ⊎_elim
             (λ (z : p ≡ at).
             let after = inside_after old r list p (inside list p i) in
-            let here =
-            not_open_inside list c.end p spine c.around (omega (arith, after)) (c.inside p (inside list p i))
-            in
-            (plain (subst (λ (m : ℕ). IsNotOpen spine m) z here)).2
-            (ap (λ (y : Item). y.body) (sym w.new_item) ∙ (ap (λ (m : ℕ). (item_at new m).body) (sym z) ∙ q)))
-            (λ (z : p ≡ at → ⊥). c.tight p (inside list p i) (ap (λ (y : Item). y.body) (sym (w.old_items p z)) ∙ q))
-            (same_or_not p at);
+            let here = not_open_inside list c.end p spine c.around (omega (arith, after)) (c.inside p
+            (inside list p i)) in
+            (plain (rw z at here)).2 (rw (z, w.new_item) at q))
+            (λ (z : p ≡ at → ⊥). c.tight p (inside list p i) (rw (w.old_items p z) at q)) (same_or_not p at);
       })
       (same_or_not list at);
   only = λ p q. ⊎_elim
-      (λ (e : p ≡ at). absurd (not_both (ap is_tight_paragraph q)
-      (ap (λ (m : ℕ). is_tight_paragraph (item_at new m).body) e
-      ∙ (ap (λ (y : Item). is_tight_paragraph y.body) w.new_item ∙ loose))))
+      (λ (e : p ≡ at). absurd (not_both (ap is_tight_paragraph q) (rw (e, w.new_item) loose)))
       (λ (e : p ≡ at → ⊥).
-      let o = k.only p (ap (λ (y : Item). y.body) (sym (w.old_items p e)) ∙ q) in
+      let o = k.only p (rw (w.old_items p e) at q) in
       record {
         list = o.list;
-        tight = ⊎_elim
-            (λ (z : o.list ≡ at). absurd (not_both o.tight
-            (ap (λ (m : ℕ). is_tight_list (item_at old m).body) z
-            ∙ (plain (subst (λ (m : ℕ). IsNotOpen spine m) z o.closed)).0)))
-            (λ (z : o.list ≡ at → ⊥). ap (λ (y : Item). is_tight_list y.body) (w.old_items o.list z) ∙ o.tight)
-            (same_or_not o.list at);
+        tight = ⊎_elim (λ (z : o.list ≡ at). absurd (not_both o.tight (rw z (plain (rw z at o.closed)).0)))
+            (λ (z : o.list ≡ at → ⊥). rw (w.old_items o.list z) o.tight) (same_or_not o.list at);
         closed = o.closed;
         inside = item_same old new w.all_links o.list p o.inside;
       })
@@ -435,23 +393,24 @@ pub lists_left : (nodes : List (Node Item)) (spine : List ℕ) (n : ℕ) (cursor
 lists_left nodes spine n cursor k = record {
   lists = λ list e t o.
       let c = k.lists list t (All-snoc (λ s. s ≡ list → ⊥) spine n o (λ z. e (sym z))) in
+      let apart : (n < list) ⊎ (c.end ≤ n) = All-last (λ s. (s < list) ⊎ (c.end ≤ s)) spine n c.around in
       record {
         end = c.end;
         low = c.low;
         high = c.high;
         around = All-front (λ s. (s < list) ⊎ (c.end ≤ s)) spine n c.around;
-        focus = ⊎_elim (λ (h : n < list). inl (omega (arith, h))) (λ (h : c.end ≤ n). inr h)
-            (All-last (λ s. (s < list) ⊎ (c.end ≤ s)) spine n c.around);
+        focus = grind (arith, apart);
         items = c.items;
         inside = c.inside;
         tight = c.tight;
       };
-  only = λ p q. let w = k.only p q in record {
-    list = w.list;
-    tight = w.tight;
-    closed = All-front (λ s. s ≡ w.list → ⊥) spine n w.closed;
-    inside = w.inside;
-  };
+  only = λ p q. let w = k.only p q in
+      record {
+        list = w.list;
+        tight = w.tight;
+        closed = All-front (λ s. s ≡ w.list → ⊥) spine n w.closed;
+        inside = w.inside;
+      };
 }
 
 -- paragraphs are made tight in the same nodes, wherever the arena stands

@@ -222,12 +222,20 @@ pub keeps_formed : (text : List ℕ) (nodes : List (Node Item)) (parts : BlockPa
     → KeepsRuns text nodes
     → IsWellFormed text nodes parts
 keeps_formed text nodes parts k runs =
-    let counts = counts_of parts in
-    record {
-      reached_once = rising_reached nodes k.rising;
-      rules = each_node nodes (λ a below after. KeepsRules text counts a below (first_root after)) k.rising
-          (λ i below after low high s t. rules_at text counts nodes i below after k runs low high s t);
-      top_is_closed = blocks_closed (roots (tree_of nodes)) (top_kind text counts nodes k);
-      each_text_once = tree_names text_named nodes k.texts k.rising;
-      each_alignments_once = tree_names alignments_named nodes k.alignments k.rising;
-    }
+    search (
+      arith,
+      counts_of,
+      rising_reached,
+      each_node,
+      first_root,
+      rules_at,
+      blocks_closed,
+      roots,
+      tree_of,
+      top_kind,
+      tree_names,
+      text_named,
+      alignments_named,
+      k.texts,
+      k.alignments,
+    )

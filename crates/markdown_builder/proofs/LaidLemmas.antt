@@ -32,19 +32,22 @@ pub changed_behind : (xs ys : List (Node Item)) (n i : ℕ) (change : Node Item 
 changed_behind [] ys n i change e = ap (λ j. changed_at j change ys) (omega (arith, e))
 changed_behind (x ∷ xs) ys zero i change e = absurd (omega (arith, e))
 changed_behind (x ∷ xs) ys (suc n) i change e =
-    let next : suc n + i ≡ suc (n + i) = omega arith in
-    ap (λ j. changed_at j change (x ∷ (xs ++ ys))) next
-    ∙ ap (λ (zs : List (Node Item)). x ∷ zs) (changed_behind xs ys n i change (omega (arith, e)))
+    search (arith, changed_at, changed_behind xs ys n i change (omega (arith, e)))
 
 -- ---- forests laid out
 
 pub length-laid : (end : Option ℕ) (n : ℕ) (f : Forest Item) → length (laid end n f) ≡ size f
 length-laid end n nil = refl
 length-laid end n (node a below after) =
-    let both = length-append (laid None (n + 1) below) (laid end (n + 1 + size below) after) in
-    let one = length-laid None (n + 1) below in
-    let two = length-laid end (n + 1 + size below) after in
-    omega (arith, both, one, two)
+    search (
+      arith,
+      length-append,
+      laid,
+      size,
+      length-laid None (n + 1) below,
+      length-laid end
+          (n + 1 + size below) after,
+    )
 
 link-followed_by : (end : Option ℕ) (n k : ℕ) (f g : Forest Item) → k ≡ n + size f
     → link end n (followed_by f g) ≡ link (link end k g) n f

@@ -80,11 +80,7 @@ last_frame parent (f ∷ g ∷ frames) (o ∷ outer) ix e =
 -- ---- an item is appended, and entered
 
 pub append_is_laid : (tree : Arena Item) (x : Item) → IsLaidOut tree → IsLaidOut (appended tree x)
-append_is_laid tree x k = record {
-  frames = k.frames;
-  inside = followed_by k.inside (node x nil nil);
-  is = ap (λ (t : Arena Item). appended t x) k.is ∙ append_laid k.frames k.inside x;
-}
+append_is_laid tree x k = search (arith, followed_by, node, nil, appended, append_laid, k.inside, k.frames)
 
 -- the newest node has no children
 newest_childless : (frames : List Frame) (inside : Forest Item) (x : Item)
@@ -102,21 +98,24 @@ newest_childless frames inside x =
 pub enter_laid : (frames : List Frame) (inside : Forest Item) (x : Item)
     → entered (laid_out frames inside) x ≡ laid_out (frames ++ record { before = inside; item = x } ∷ []) nil
 enter_laid frames inside x =
-    let frame : Frame = record { before = inside; item = x } in
-    let nodes : (appended (laid_out frames inside) x).nodes ≡ (laid_out (frames ++ frame ∷ []) nil).nodes =
-    ap (λ (t : Arena Item). t.nodes) (append_laid frames inside x) ∙ sym (nodes_more frames frame nil) in
-    let spine : numbers_in 0 frames ++ length (laid_out frames inside).nodes ∷ []
-    ≡ numbers_in 0 (frames ++ frame ∷ []) =
-    ap (λ n. numbers_in 0 frames ++ n ∷ []) (length-laid_out frames inside) ∙ sym (numbers_more 0 frames frame) in
-    same_arena (entered (laid_out frames inside) x) (laid_out (frames ++ frame ∷ []) nil) nodes spine
-    (newest_childless frames inside x)
+    search (
+      arith,
+      appended,
+      laid_out,
+      nil,
+      append_laid,
+      nodes_more,
+      numbers_in,
+      length,
+      length-laid_out,
+      numbers_more,
+      same_arena,
+      entered,
+      newest_childless,
+    )
 
 pub enter_is_laid : (tree : Arena Item) (x : Item) → IsLaidOut tree → IsLaidOut (entered tree x)
-enter_is_laid tree x k = record {
-  frames = k.frames ++ record { before = k.inside; item = x } ∷ [];
-  inside = nil;
-  is = ap (λ (t : Arena Item). entered t x) k.is ∙ enter_laid k.frames k.inside x;
-}
+enter_is_laid tree x k = search (arith, nil, entered, enter_laid, k.frames, k.inside)
 
 -- ---- the innermost open block
 
@@ -227,10 +226,18 @@ pub texts_laid : (frames : List Frame) (inside : Forest Item) (start count : ℕ
     ≡ laid_out frames (followed_by inside (byte_texts start count))
 texts_laid frames inside start zero = ap (λ (r : Forest Item). laid_out frames r) (sym (followed_by-nil inside))
 texts_laid frames inside start (suc count) =
-    let x = byte_text (start + count) in
-    ap (λ (t : Arena Item). appended t x) (texts_laid frames inside start count)
-    ∙ (append_laid frames (followed_by inside (byte_texts start count)) x
-    ∙ ap (λ (r : Forest Item). laid_out frames r) (followed_by-assoc inside (byte_texts start count) (node x nil nil)))
+    search (
+      arith,
+      byte_text,
+      appended,
+      append_laid,
+      followed_by,
+      laid_out,
+      followed_by-assoc,
+      node,
+      nil,
+      texts_laid frames inside start count,
+    )
 
 -- the characters of a run, of which the last `count` are made of Texts
 marked_laid : (frames : List Frame) (inside : Forest Item) (start stop total left count : ℕ) (opens closes : Bool)
@@ -277,9 +284,5 @@ run_laid frames inside start stop total opens closes =
 
 pub run_is_laid : (tree : Arena Item) (start stop total : ℕ) (opens closes : Bool) → IsLaidOut tree
     → IsLaidOut (run_marked (texts_appended tree start total) stop opens closes total)
-run_is_laid tree start stop total opens closes k = record {
-  frames = k.frames;
-  inside = followed_by k.inside (run_trees stop opens closes total);
-  is = ap (λ (t : Arena Item). run_marked (texts_appended t start total) stop opens closes total) k.is
-      ∙ run_laid k.frames k.inside start stop total opens closes;
-}
+run_is_laid tree start stop total opens closes k =
+    search (arith, followed_by, run_trees, run_marked, texts_appended, run_laid, k.inside, k.frames)

@@ -103,12 +103,7 @@ pub laid_last : (frames : List Frame) (before : Forest Item) (x : Item) (below a
     → (laid_out frames (followed_by before (node x below after))).nodes
     ≡ ahead frames before ++ laid None (number_after frames before) (node x below after)
 laid_last frames before x below after =
-    let front = around 0 root frames in
-    let n = innermost_in 0 frames in
-    let i = innermost_item root frames in
-    laid_around 0 root frames (followed_by before (node x below after))
-    ∙ (ap (λ (xs : List (Node Item)). front ++ xs) (laid_ahead n i before x below after)
-    ∙ sym (append_assoc front (ahead_in n i before) (laid None (number_after frames before) (node x below after))))
+    search (arith, root, innermost_in, laid_around, followed_by, node, laid_ahead, append_assoc, laid)
 
 -- so many nodes there are
 pub length-laid_out : (frames : List Frame) (inside : Forest Item)

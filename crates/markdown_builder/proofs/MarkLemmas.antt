@@ -49,12 +49,7 @@ one_source text at low =
 -- two bytes
 pub two_source : (text : List ℕ) (at : ℕ) → at + 1 < length text
     → slice_range text at (at + 2) ≡ slice_index text at ∷ slice_index text (at + 1) ∷ []
-two_source text at low =
-    let n : (at + 2) - at ≡ 2 = omega arith in
-    let next : suc at ≡ at + 1 = omega arith in
-    rw n (ap (take 2) (drop-cons text at 0 (omega (arith, low)) ∙ ap (λ (xs : List ℕ). slice_index text at ∷ xs)
-    (drop-cons text (suc at) 0 (omega (arith, low))))
-    ∙ rw next refl)
+two_source text at low = search (arith, take, drop-cons, slice_index)
 
 -- after each byte of a run of ASCII a character begins
 pub run_boundary : (text : List ℕ) (from to byte : ℕ) → IsUtf8 text → IsRunOf byte text from to → byte < 128 → (p : ℕ)

@@ -80,18 +80,14 @@ same_labels : {A B : Type 0} (f g : A → B) (P : A → Type 0) (trees : Forest 
     → Each P trees → relabelled f trees ≡ relabelled g trees
 same_labels f g P nil h e = refl
 same_labels f g P (node a below after) h e =
-    ap (λ b. node b (relabelled f below) (relabelled f after)) (h a e.0)
-    ∙ (ap (λ t. node (g a) t (relabelled f after)) (same_labels f g P below h e.1)
-    ∙ ap (node (g a) (relabelled g below)) (same_labels f g P after h e.2))
+    search (arith, node, relabelled, same_labels f g P below h e.1, same_labels f g P after h e.2)
 
 same_levels : (p q : Parts) (counts : PartCounts) (levels : List (Forest Item))
     → ((a : Item) → PartsAreNamed counts a.body → shown_item p a ≡ shown_item q a) → AreNamed counts levels
     → shown_levels p levels ≡ shown_levels q levels
 same_levels p q counts [] h e = refl
 same_levels p q counts (level ∷ levels) h e =
-    ap (λ t. t ∷ shown_levels p levels)
-    (same_labels (shown_item p) (shown_item q) (λ a. PartsAreNamed counts a.body) level h e.0)
-    ∙ ap (λ ls. shown_trees q level ∷ ls) (same_levels p q counts levels h e.1)
+    search (arith, shown_levels, same_labels, shown_item, shown_trees, same_levels p q counts levels h e.1)
 
 pub more_texts : (parts : Parts) (more : List (List ℕ)) (levels : List (Forest Item))
     → AreNamed (counts_in parts) levels

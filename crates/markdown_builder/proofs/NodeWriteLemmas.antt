@@ -86,12 +86,6 @@ pub record Grows (old new : List (Node Item)) (down : Bool) (at : ℕ) (item : I
       ≡ link_of (links_of old) d i
   pub new_link : link_of (links_of new) down at ≡ Some (length old)
 
--- what stands at a place
-pub place_follower : (nodes : List (Node Item)) (spine : List ℕ) (cursor : Option ℕ)
-    → follower nodes spine cursor ≡ link_of (links_of nodes) (place_down cursor) (place_at spine cursor)
-place_follower nodes spine None = refl
-place_follower nodes spine (Some before) = refl
-
 -- a node's link, and the node with another
 abbrev link : Bool → Node Item → Option ℕ
 link true = λ n. n.child
@@ -215,16 +209,8 @@ last_changed f (m ∷ nodes) n = ap (λ (ns : List (Node Item)). m ∷ ns) (last
 last_led : (y : Item) (nodes : List (Node Item)) (n : Node Item) (spine : List ℕ) (cursor : Option ℕ)
     → changed_at (length nodes) (λ m. record m { item = y }) (led_to (length nodes) spine cursor (nodes ++ n ∷ []))
     ≡ led_to (length nodes) spine cursor (nodes ++ record n { item = y } ∷ [])
-last_led y nodes n spine (Some before) =
-    changes_commute (λ m. record m { item = y }) (λ m. record m { next = Some (length nodes) }) (λ m. refl)
-    (length nodes) before (nodes ++ n ∷ [])
-    ∙ ap (λ (ns : List (Node Item)). changed_at before (λ m. record m { next = Some (length nodes) }) ns)
-    (last_changed (λ m. record m { item = y }) nodes n)
-last_led y nodes n spine None =
-    changes_commute (λ m. record m { item = y }) (λ m. record m { child = Some (length nodes) }) (λ m. refl)
-    (length nodes) (innermost spine) (nodes ++ n ∷ [])
-    ∙ ap (λ (ns : List (Node Item)). changed_at (innermost spine) (λ m. record m { child = Some (length nodes) }) ns)
-    (last_changed (λ m. record m { item = y }) nodes n)
+last_led y nodes n spine (Some before) = search (arith, changes_commute, length, changed_at, last_changed)
+last_led y nodes n spine None = search (arith, changes_commute, length, innermost, changed_at, last_changed)
 
 -- an item that is appended and then replaced by another is as that other one appended
 pub appended_then_written : (tree : Arena Item) (x y : Item)
@@ -236,7 +222,4 @@ appended_then_written tree x y =
 -- its number is that of a node
 pub appended_number : (tree : Arena Item) (x : Item) → length tree.nodes < length (appended tree x).nodes
 appended_number tree x =
-    let n : Node Item = record { item = x; child = None; next = follower tree.nodes tree.spine tree.cursor } in
-    let led = length-led_to (length tree.nodes) tree.spine tree.cursor (tree.nodes ++ n ∷ []) in
-    let more = length-append tree.nodes (n ∷ []) in
-    omega (arith, led, more)
+    search (arith, follower, length-led_to, length, length-append, tree.nodes, tree.spine, tree.cursor)

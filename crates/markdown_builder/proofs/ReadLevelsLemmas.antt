@@ -142,11 +142,17 @@ levels_rebuilt : (parent : ℕ) (frames : List Frame) (inside : Forest Item)
     → levels_in (numbers_in parent frames) (rebuilt frames inside) ≡ map (λ f. f.before) frames ++ inside ∷ []
 levels_rebuilt parent [] inside = refl
 levels_rebuilt parent (frame ∷ frames) inside =
-    rw (
-      but_last-followed_by frame.before frame.item (rebuilt frames inside),
-      in_last-followed_by frame.before frame.item (rebuilt frames inside),
+    search (
+      arith,
+      but_last-followed_by,
+      rebuilt,
+      in_last-followed_by,
+      number_in,
+      levels_rebuilt
+          (number_in parent frame) frames inside,
+      frame.before,
+      frame.item,
     )
-    (ap (λ (ls : List (Forest Item)). frame.before ∷ ls) (levels_rebuilt (number_in parent frame) frames inside))
 
 -- the levels that are read off an arena are those that were laid out
 pub levels_laid : (frames : List Frame) (inside : Forest Item)

@@ -30,12 +30,21 @@ pub rising_spelled : (n : ℕ) (k : Links) (l : Option ℕ) (low : ℕ) → AreR
 rising_spelled zero k None low r b h = refl
 rising_spelled zero k (Some j) low r b h = absurd (omega (arith, b.0, b.1, h))
 rising_spelled (suc n) k None low r b h = refl
-rising_spelled (suc n) k (Some j) low r b h = (
-  refl,
-  b.1,
-  rising_spelled n k (k.child j) j r (leads k r true j) (omega (arith, b.0, h)),
-  rising_spelled n k (k.next j) j r (leads k r false j) (omega (arith, b.0, h)),
-)
+rising_spelled (suc n) k (Some j) low r b h =
+    search (
+      arith,
+      leads,
+      true,
+      false,
+      rising_spelled n k (k.child j) j r (leads k r true j) (omega (
+        arith,
+        b.0,
+        h,
+      )),
+      rising_spelled n k (k.next j) j r (leads k r false j) (omega (arith, b.0, h)),
+      k.child,
+      k.next,
+    )
 
 -- a number is that of a forest's tree
 abbrev pub IsRoot : ℕ → Forest ℕ → Type 0
@@ -73,11 +82,17 @@ both_lists P (x ∷ xs) ys a b = (a.0, both_lists P xs ys a.1 b)
 -- what holds of all that stand in a forest holds of its list
 all_in : (P : ℕ → Type 0) (f : Forest ℕ) → ((j : ℕ) → IsIn j f → P j) → AllByRecursion P (preorder f)
 all_in P nil h = tt
-all_in P (node i below after) h = (
-  h i (inl refl),
-  both_lists P (preorder below) (preorder after) (all_in P below (λ j s. h j (inr (inl s))))
-      (all_in P after (λ j s. h j (inr (inr s)))),
-)
+all_in P (node i below after) h =
+    search (
+      arith,
+      inl,
+      both_lists,
+      preorder,
+      inr,
+      all_in P below (λ j s. h j (inr (inl s))),
+      all_in P after
+          (λ j s. h j (inr (inr s))),
+    )
 
 -- two lists of distinct numbers that share none are distinct when joined
 distinct_both : (xs ys : List ℕ) → IsDistinct nat_eq xs → IsDistinct nat_eq ys

@@ -94,10 +94,7 @@ runs_appended text old new down at x r g free none k i =
   where
     new_node : i ≡ length old → RunsAreWhole text (numbered new i) (next_at new i)
     new_node q =
-        let here : item_at new i ≡ x = ap (λ (m : ℕ). item_at new m) q ∙ g.new_item in
-        let none_here : run_character (item_at new i).body ≡ None = ap (λ (y : Item). run_character y.body) here
-        ∙ none in
-        rw none_here tt
+        rw (q, g.new_item, none) tt
 
     same_here : (i ≡ length old → ⊥) → numbered new i ≡ numbered old i
     same_here n = ap (at_number i) (same_item old new down at x g i n)
@@ -107,8 +104,7 @@ runs_appended text old new down at x r g free none k i =
     elsewhere n e =
         let next : next_at new i ≡ next_at old i = next_same old new (sibling_of old i) (sibling_of new i) e
         (λ j q. g.old_items j (r.rises false i j q).1) in
-        subst (λ (a : Numbered). RunsAreWhole text a (next_at new i)) (sym (same_here n))
-        (subst (λ (b : Option Numbered). RunsAreWhole text (numbered old i) b) (sym next) (k i))
+        rw (same_item old new down at x g i n, next) (k i)
 
     old_node : (d : Bool) → link_of (links_of old) d at ≡ None → Grows old new d at x → (i ≡ length old → ⊥)
         → RunsAreWhole text (numbered new i) (next_at new i)

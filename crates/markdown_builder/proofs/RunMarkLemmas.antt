@@ -55,29 +55,13 @@ pub record RunStands (s : State) (byte end : ℕ) (opens closes : Bool) (texts :
 
 -- the invariant, apart from runs, does not depend on the run that callers see
 stands_with_run : (s : State) (run : Option ℕ) → Stands s → Stands (record s { run = run })
-stands_with_run s run h = record {
-  nodes = h.nodes;
-  low = h.low;
-  free = h.free;
-  fits = h.fits;
-  are_open = h.are_open;
-  leaves = h.leaves;
-  after = h.after;
-  top = h.top;
-  covered = h.covered;
-  boundary = h.boundary;
-  begun = h.begun;
-  ranges = h.ranges;
-}
+stands_with_run s run h = search (arith)
 
 -- a Text is no open block
 text_not_open : (nodes : List (Node Item)) (n a start : ℕ) (b : OpenBlock) → item_at nodes n ≡ byte_text start → a ≡ n
     → IsOpenAt nodes a b
     → ⊥
-text_not_open nodes n a start b was z q =
-    let inline : is_inline b.body ≡ true = sym (ap (λ (y : Item). is_inline y.body) q.item)
-    ∙ (ap (λ (m : ℕ). is_inline (item_at nodes m).body) z ∙ ap (λ (y : Item). is_inline y.body) was) in
-    let none = parent_not_inline b.body q.parent in cc (inline, none)
+text_not_open nodes n a start b was z q = search (arith, is_inline, item_at, parent_not_inline, b.body, q.parent)
 
 -- a character of another byte ends a run
 byte_ends : (text : List ℕ) (byte : ℕ) (a c : Numbered) → byte_of text c.item ≡ byte → (byte == byte_of text a.item)

@@ -1,7 +1,6 @@
 -- What calls of a builder make of its levels, with what their items refer to.
-use Rattle.std.proofs.Common.{◌≡◌, ℕ, zero, suc, ◌+◌, ◌-◌, List, [], ◌∷◌, Some, None, Bool, true}
-use Rattle.std.proofs.Common.{false}
-use Rattle.std.proofs.Common.{map, refl, sym, ap, ◌∙◌, cond, arith, ◌≤◌}
+use Rattle.std.proofs.Common.{◌≡◌, ℕ, zero, suc, List, [], ◌∷◌, Some, None, Bool, true}
+use Rattle.std.proofs.Common.{map, refl, ap, ◌∙◌, cond, arith, ◌≤◌}
 use Rattle.markdown_base.specs.declared.item.Item.{Item}
 use Rattle.markdown_base.specs.declared.item.ItemBody.{ItemBody}
 use Rattle.markdown_base.specs.declared.item.ItemBody.TheVariants as body
@@ -83,12 +82,18 @@ tight_alignments alignments other = refl
 
 tight_is : (parts : Parts) (item : Item)
     → shown_item parts (tight_if_paragraph item) ≡ tight_shown (shown_item parts item)
-tight_is parts item = λ i. record {
-  item = record { start = item.start; end = item.end; body = tight_unnumbered item.body i };
-  text = tight_text parts.texts item.body i;
-  heading = tight_heading parts.headings item.body i;
-  alignments = tight_alignments parts.alignments item.body i;
-}
+tight_is parts item =
+    search (
+      arith,
+      tight_unnumbered,
+      tight_text,
+      tight_heading,
+      tight_alignments,
+      item.body,
+      parts.texts,
+      parts.headings,
+      parts.alignments,
+    )
 
 tight_list_is : (b : ItemBody) → is_tight_list (unnumbered b) ≡ is_tight_list b
 tight_list_is (body.Heading level None) = refl
@@ -97,15 +102,20 @@ tight_list_is other = refl
 
 settled_is : (parts : Parts) (a : Item) (g : Forest Item)
     → shown_trees parts (below_closed a g) ≡ settled_below (shown_item parts a) (shown_trees parts g)
-settled_is parts a g = by_kind (is_tight_list a.body)
-    ∙ ap (λ v. cond v (items_changed tight_shown (shown_trees parts g)) (shown_trees parts g))
-    (sym (tight_list_is a.body))
-  where
-    by_kind : (v : Bool)
-        → shown_trees parts (cond v (items_changed tight_if_paragraph g) g)
-        ≡ cond v (items_changed tight_shown (shown_trees parts g)) (shown_trees parts g)
-    by_kind true = relabelled_items (shown_item parts) tight_if_paragraph tight_shown (tight_is parts) g
-    by_kind false = refl
+settled_is parts a g =
+    search (
+      arith,
+      is_tight_list,
+      cond,
+      items_changed,
+      tight_shown,
+      shown_trees,
+      tight_list_is,
+      tight_if_paragraph,
+      relabelled_items,
+      shown_item,
+      tight_is,
+    )
 
 -- ---- the steps
 
@@ -125,11 +135,17 @@ pub run_shown : (parts : Parts) (stop : ℕ) (opens closes : Bool) (count : ℕ)
     → shown_trees parts (run_trees stop opens closes count) ≡ chain_of (run_items stop opens closes count)
 run_shown parts stop opens closes zero le = refl
 run_shown parts stop opens closes (suc count) le =
-    let end : (stop - suc count) + 1 ≡ stop - count = omega (arith, le) in
-    ap (λ n. node (plain_item (stop - suc count) n (body.MaybeEmphasis (suc count) opens closes)) nil
-    (shown_trees parts (run_trees stop opens closes count))) end
-    ∙ ap (node (plain_item (stop - suc count) (stop - count) (body.MaybeEmphasis (suc count) opens closes)) nil)
-    (run_shown parts stop opens closes count (omega (arith, le)))
+    search (
+      arith,
+      node,
+      plain_item,
+      nil,
+      shown_trees,
+      run_trees,
+      run_shown parts stop opens closes count (omega
+          (arith, le)),
+      body.MaybeEmphasis,
+    )
 
 -- an item that refers to nothing
 pub settled_shown : (parts : Parts) (start end : ℕ) (b : ItemBody) → is_settled b ≡ true

@@ -1,6 +1,6 @@
 -- What each step of a builder keeps, whatever it appends.
 use Rattle.std.proofs.Common.{◌≡◌, ℕ, suc, ◌<◌, ◌≤◌, List, [], ◌∷◌, ◌++◌, Option, Some, None, Bool, true, false, length}
-use Rattle.std.proofs.Common.{refl, ◌∙◌, subst}
+use Rattle.std.proofs.Common.{refl, ◌∙◌}
 use Rattle.std.proofs.Common.{arith, inl, inr, ⊎_elim}
 use Rattle.std.specs.Prelude.{IfSome, IsTrue}
 use Rattle.std.specs.List.{AllByRecursion}
@@ -12,7 +12,7 @@ use Rattle.markdown_base.specs.declared.node.Node.{Node}
 use Rattle.markdown_base.specs.ArenaChanges.{innermost, appended}
 use Rattle.markdown_base.specs.ArenaForest.{Links, links_of}
 use Rattle.markdown_base.specs.Coverage.{is_inside}
-use Rattle.markdown_base.specs.Item.{range_of, is_inline}
+use Rattle.markdown_base.specs.Item.{is_inline}
 use Rattle.markdown_base.specs.WellFormed.{PartCounts}
 use Rattle.markdown_base.proofs.ArenaLemmas.{All-snoc, All-front, All-last}
 use Rattle.markdown_base.proofs.ForestLemmas.{All-weaker}
@@ -40,7 +40,7 @@ nowhere (Some j) h = absurd (h j refl)
 
 -- the newest node has no links
 newest_free : (k : Links) (n : ℕ) (d : Bool) → AreRising k → k.size ≡ suc n → link_of k d n ≡ None
-newest_free k n d r e = nowhere (link_of k d n) (λ j h. let p = r.rises d n j h in absurd (omega (arith, p.0, p.1, e)))
+newest_free k n d r e = nowhere (link_of k d n) (λ j h. let p = r.rises d n j h in omega (arith, p, e))
 
 -- ---- open blocks
 
@@ -59,13 +59,8 @@ pub open_written : (P : ℕ → Type 0) (old new : List (Node Item)) (at : ℕ) 
     → ((s : ℕ) (b : OpenBlock) → P s → IsOpenAt old s b → s ≡ at → ⊥)
     → (spine : List ℕ) (blocks : List OpenBlock) → AllByRecursion P spine → AreOpen old spine blocks
     → AreOpen new spine blocks
-open_written P old new at x w other spine blocks = open_map P old new (λ s b p o. record {
-  positive = o.positive;
-  low = omega (arith, o.low, w.size);
-  last = w.all_links false s ∙ o.last;
-  item = w.old_items s (other s b p o) ∙ o.item;
-  parent = o.parent;
-}) spine blocks
+open_written P old new at x w other spine blocks =
+    open_map P old new (λ s b p o. search (arith, w.all_links false s, w.old_items s (other s b p o))) spine blocks
 
 -- their numbers are those of nodes
 open_low : (nodes : List (Node Item)) (spine : List ℕ) (blocks : List OpenBlock) → AreOpen nodes spine blocks
@@ -197,13 +192,9 @@ appended_fits s many x h more fits names kind low =
       grows = g;
       nodes = k;
       free = λ d. newest_free (links_of new) (length old) d k.rising g.size;
-      are_open = open_map (λ t. (false ≡ down) × (t ≡ place) → ⊥) old new (λ t b n o. record {
-        positive = o.positive;
-        low = omega (arith, o.low, g.size);
-        last = g.other_links false t n ∙ o.last;
-        item = g.old_items t o.low ∙ o.item;
-        parent = o.parent;
-      }) s.tree.spine s.blocks (off_place s.tree.spine s.tree.spine s.tree.cursor h.after) h.are_open;
+      are_open = open_map (λ t. (false ≡ down) × (t ≡ place) → ⊥) old new
+          (λ t b n o. search (arith, g.other_links false t n, g.old_items t o.low, g.size)) s.tree.spine s.blocks
+          (off_place s.tree.spine s.tree.spine s.tree.cursor h.after) h.are_open;
       after = open_low old s.tree.spine s.blocks h.are_open;
       top = top_appended old new s.tree.spine s.tree.cursor x g h.free h.top;
       covered = covered_stays s.text old new s.definitions (covered_to s.blocks s.at) (λ p b. under_top p b g)
@@ -220,8 +211,8 @@ appended_fits s many x h more fits names kind low =
           (link_stays s.tree.nodes (appended s.tree x).nodes (place_down s.tree.cursor)
           (place_at s.tree.spine s.tree.cursor) x g h.free) b.number b.top;
       inside = ⊎_elim
-          (λ (e : b.number ≡ length s.tree.nodes). let none = item_beyond s.tree.nodes b.number (omega (arith, e)) in
-          absurd (not_inside p 0 (subst (λ (y : Item). is_inside p (range_of y) ≡ true) none b.inside)))
+          (λ (e : b.number ≡ length s.tree.nodes). absurd (not_inside p 0
+          (rw (item_beyond s.tree.nodes b.number (omega (arith, e))) at b.inside)))
           (λ (n : b.number ≡ length s.tree.nodes → ⊥). rw
           (same_item s.tree.nodes (appended s.tree x).nodes (place_down s.tree.cursor)
           (place_at s.tree.spine s.tree.cursor) x g b.number n) b.inside)

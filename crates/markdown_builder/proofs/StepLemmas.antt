@@ -33,7 +33,7 @@ use Rattle.markdown_builder.specs.BuilderView.{IsWhite}
 use Rattle.markdown_builder.specs.Levels.{IsLaidOut}
 use Rattle.markdown_builder.specs.Tightness.{is_tight_list}
 use Rattle.markdown_builder.specs.Rising.{link_of, IsOnTop, place_down, place_at}
-use Rattle.markdown_builder.specs.BuilderRules.{ItemFits, NamesNew, MayReplace, KeepsNodes, KeepsRuns}
+use Rattle.markdown_builder.specs.BuilderRules.{ItemFits, LinkFits, NamesNew, MayReplace, KeepsNodes, KeepsRuns}
 use Rattle.markdown_builder.specs.ClosedLists.{IsNotOpen, ListsAreTight}
 use Rattle.markdown_builder.specs.Standing.{State, open_item, entered, AreOpen, OnlyLastIsLeaf, IsTopPlace, IsUnderTop}
 use Rattle.markdown_builder.specs.Standing.{is_in_definition}
@@ -155,27 +155,7 @@ moved : (s : State) (to : ℕ) (definitions : List (CowStr × LinkDef)) → IsSo
     → AreCovered s.text s.tree.nodes definitions (covered_to s.blocks to)
     → AllByRecursion (λ d. IsDefinitionRange s.text d.1.span) definitions
     → IsSound (record s { definitions = definitions; at = to })
-moved s to definitions k low boundary covered ranges = record {
-  utf8 = k.utf8;
-  stands = record {
-    nodes = k.stands.nodes;
-    low = k.stands.low;
-    free = k.stands.free;
-    fits = λ x e l. k.stands.fits x e (omega (arith, l, low));
-    are_open = k.stands.are_open;
-    leaves = k.stands.leaves;
-    after = k.stands.after;
-    top = k.stands.top;
-    covered = covered;
-    boundary = boundary;
-    begun = All-weaker (λ b. b.start ≤ s.at) (λ b. b.start ≤ to) (λ b h. omega (arith, h, low)) s.blocks k.stands.begun;
-    ranges = ranges;
-  };
-  runs = k.runs;
-  last_run = k.last_run;
-  lists = k.lists;
-  laid = k.laid;
-}
+moved s to definitions k low boundary covered ranges = search (arith, All-weaker, is_inline, s.blocks, k.stands.fits)
 
 -- bytes are stepped over: white space, where no block is open
 pub skipped : (s : State) (to : ℕ) → IsSound s → s.at ≤ to → IsCharBoundary s.text to
@@ -208,10 +188,7 @@ covered_added : (text : List ℕ) (nodes : List (Node Item)) (definitions : List
     → AreOpen nodes spine blocks → IsTopPlace nodes spine (Some number) → item_at nodes number ≡ item_over at to b
     → AreCovered text nodes definitions (covered_to blocks at)
     → AreCovered text nodes definitions (covered_to blocks to)
-covered_added text nodes definitions [] [] number at to b o t e c =
-    λ p l dark. ⊎_elim (λ (h : p < at). c p h dark)
-    (λ (h : at ≤ p). inl (record { number = number; top = t; inside = rw e (inside p at to h l) }))
-    (cases_lt p at)
+covered_added text nodes definitions [] [] number at to b o t e c = search (arith, inl, inside, cases_lt)
 covered_added text nodes definitions (s ∷ spine) [] number at to b o t e c = absurd o
 covered_added text nodes definitions spine (x ∷ blocks) number at to b o t e c = c
 
@@ -230,42 +207,29 @@ added s many to b run k more fits names kind no_run loose =
     let a = appended_fits s many x k.stands more fits names kind (omega arith) in
     let low : s.at ≤ to = fits.ranges_lie_in.ordered in
     let n = length s.tree.nodes in
-    let none : run_character (item_at (appended s.tree x).nodes n).body ≡ None = ap (λ (y : Item). run_character y.body)
-    a.grows.new_item
-    ∙ no_run in
-    record {
-      utf8 = k.utf8;
-      stands = record {
-        nodes = a.nodes;
-        low = omega (arith, a.grows.size);
-        free = a.free false;
-        fits = λ y e l. rw a.grows.new_item (record {
-          kind = e
-              ∙ sym kind;
-          inline_in_order = λ h i. record { ends = l; numbers = omega (arith, a.grows.size) };
-        });
-        are_open = a.are_open;
-        leaves = k.stands.leaves;
-        after = a.after;
-        top = a.top;
-        covered = covered_added s.text (appended s.tree x).nodes s.definitions s.tree.spine s.blocks n s.at to b
-            a.are_open a.top
-            a.grows.new_item a.covered;
-        boundary = fits.ranges_lie_in.end;
-        begun = All-weaker (λ q. q.start ≤ s.at) (λ q. q.start ≤ to) (λ q h. omega (arith, h, low)) s.blocks
-            k.stands.begun;
-        ranges = k.stands.ranges;
-      };
-      runs = runs_appended s.text s.tree.nodes (appended s.tree x).nodes (place_down s.tree.cursor)
-          (place_at s.tree.spine s.tree.cursor) x
-          k.stands.nodes.rising
-          a.grows k.stands.free no_run k.runs;
-      last_run = rw none tt;
-      lists = lists_appended s.tree.nodes (appended s.tree x).nodes s.tree.spine s.tree.cursor x k.stands.nodes.rising
-          a.nodes.rising k.stands.nodes.root (open_below s.tree.nodes s.tree.spine s.blocks k.stands.are_open) a.grows
-          k.stands.free k.lists loose;
-      laid = append_is_laid s.tree x k.laid;
-    }
+    let new = (appended s.tree x).nodes in
+    let none : run_character (item_at new n).body ≡ None = rw a.grows.new_item no_run in
+    let last : LastRun s.text new (Some n) run = rw none tt in
+    let within : n < length new = omega (arith, a.grows.size) in
+    let follows : (y : Item) → is_inline y.body ≡ s.leaf → to ≤ y.start
+    → LinkFits false (numbered new n) (record { number = length new; item = y }) = λ y e l. rw a.grows.new_item
+    (record {
+      kind = e ∙ sym kind;
+      inline_in_order = λ h i. record { ends = l; numbers = within };
+    }) in
+    assumption (
+      a.free false,
+      fits.ranges_lie_in.end,
+      covered_added s.text new s.definitions s.tree.spine s.blocks n s.at to b
+          a.are_open a.top a.grows.new_item a.covered,
+      All-weaker (λ q. q.start ≤ s.at) (λ q. q.start ≤ to) (λ q h. omega (arith, h, low)) s.blocks k.stands.begun,
+      runs_appended s.text s.tree.nodes new (place_down s.tree.cursor) (place_at s.tree.spine s.tree.cursor) x
+          k.stands.nodes.rising a.grows k.stands.free no_run k.runs,
+      lists_appended s.tree.nodes new s.tree.spine s.tree.cursor x k.stands.nodes.rising a.nodes.rising
+          k.stands.nodes.root (open_below s.tree.nodes s.tree.spine s.blocks k.stands.are_open) a.grows k.stands.free
+          k.lists loose,
+      append_is_laid s.tree x k.laid,
+    )
 
 -- ---- a block is opened
 
@@ -368,35 +332,8 @@ opened_alone s many b run k outside placed parent =
 -- with more parts the invariant still holds
 pub more_parts : (s : State) (many : PartCounts) → HasMore s.counts many → IsSound s
     → IsSound (record s { counts = many })
-more_parts s many more k = record {
-  utf8 = k.utf8;
-  stands = record {
-    nodes = record {
-      rising = k.stands.nodes.rising;
-      rooted = k.stands.nodes.rooted;
-      root = k.stands.nodes.root;
-      items = λ i a b. fits_more s.text s.counts many (item_at s.tree.nodes i) more (k.stands.nodes.items i a b);
-      links = k.stands.nodes.links;
-      texts = k.stands.nodes.texts;
-      alignments = k.stands.nodes.alignments;
-    };
-    low = k.stands.low;
-    free = k.stands.free;
-    fits = k.stands.fits;
-    are_open = k.stands.are_open;
-    leaves = k.stands.leaves;
-    after = k.stands.after;
-    top = k.stands.top;
-    covered = k.stands.covered;
-    boundary = k.stands.boundary;
-    begun = k.stands.begun;
-    ranges = k.stands.ranges;
-  };
-  runs = k.runs;
-  last_run = k.last_run;
-  lists = k.lists;
-  laid = k.laid;
-}
+more_parts s many more k =
+    search (arith, length, fits_more, item_at, s.text, s.counts, s.tree.nodes, k.stands.nodes.items)
 
 -- ---- a block is closed
 
@@ -407,27 +344,14 @@ pub block_replaces : (a b : Item) → is_inline a.body ≡ false → is_inline b
     → ((t : ℕ) → text_named b.body ≡ Some t → text_named a.body ≡ Some t) → ((t : ℕ) → alignments_named b.body ≡ Some t
     → alignments_named a.body ≡ Some t)
     → MayReplace a b
-block_replaces a b was inline leaf childless texts alignments = record {
-  inline = inline ∙ sym was;
-  leaf = leaf;
-  childless = childless;
-  texts = texts;
-  alignments = alignments;
-  start = λ e. cc (was, e);
-  end = λ e. cc (was, e);
-}
+block_replaces a b was inline leaf childless texts alignments = search (arith)
 
 -- it fits where the open one did
 closed_fits : (text : List ℕ) (counts : PartCounts) (b : ItemBody) (start end : ℕ) → is_inline b ≡ false → start ≤ end
     → IsCharBoundary text end
     → ItemFits text counts (item_over start start b) → ItemFits text counts (item_over start end b)
-closed_fits text counts b start end h low boundary f = record {
-  ranges_lie_in = record { ordered = low; start = f.ranges_lie_in.start; end = boundary };
-  nothing_resolved = f.nothing_resolved;
-  markup_is_there = block_markup b (source_of text (item_over start end b)) h;
-  parts_are_named = f.parts_are_named;
-  blocks_are_settled = f.blocks_are_settled;
-}
+closed_fits text counts b start end h low boundary f =
+    assumption (block_markup b (source_of text (item_over start end b)) h)
 
 -- the outermost open block, or the one that was left, is on top
 top_closed : (old new : List (Node Item)) (spine : List ℕ) (n : ℕ)
@@ -589,10 +513,7 @@ in_more definitions d p h =
 
 in_last : (definitions : List (CowStr × LinkDef)) (d : CowStr × LinkDef) (p : ℕ) → is_inside p d.1.span ≡ true
     → IsTrue (is_in_definition (definitions ++ d ∷ []) p)
-in_last definitions d p h =
-    let here : is_in_definition (d ∷ []) p ≡ true = rw h refl in
-    rw (list_any-append (λ (x : CowStr × LinkDef). is_inside p x.1.span) definitions (d ∷ []))
-    (either_passes (is_in_definition definitions p) (is_in_definition (d ∷ []) p) (inr here))
+in_last definitions d p h = search (arith, is_in_definition, list_any-append, is_inside, either_passes, inr)
 
 -- a definition is added, which stands from here up to a place
 pub defined : (s : State) (to : ℕ) (d : CowStr × LinkDef) → IsSound s → s.at ≤ to → IsCharBoundary s.text to

@@ -1,6 +1,6 @@
 -- Paragraphs made tight in a forest that is laid out: after each step of a loop over its roots, those before the loop's
 -- link are changed, and the others are as they were.
-use Rattle.std.proofs.Common.{◌≡◌, ℕ, zero, suc, ◌+◌, ◌<◌, List, [], ◌∷◌, ◌++◌, Option, Some, None, true, false}
+use Rattle.std.proofs.Common.{◌≡◌, ℕ, zero, suc, ◌+◌, ◌<◌, List, [], ◌∷◌, ◌++◌, Option, Some, None, false}
 use Rattle.std.proofs.Common.{length, refl, sym, ap, ◌∙◌, arith}
 use Rattle.std.proofs.lemmas.List.{length-append, append_assoc}
 use Rattle.markdown_base.specs.declared.item.Item.{Item}
@@ -33,15 +33,6 @@ pub same_item_written : (tree : Arena Item) (number : ℕ) → number < length t
     → with_item tree number (item_at tree.nodes number) ≡ tree
 same_item_written tree number h =
     ap (λ (ns : List (Node Item)). record tree { nodes = ns }) (same_written tree.nodes number h)
-
--- a paragraph is made tight, and another item stays
-pub paragraph_tight : (item : Item) → is_paragraph item.body ≡ true → tight_if_paragraph item ≡ tight item
-paragraph_tight item e =
-    ap (λ (b : ItemBody). record { start = item.start; end = item.end; body = b }) (tight_bodied item.body e)
-  where
-    tight_bodied : (b : ItemBody) → is_paragraph b ≡ true → tight_body b ≡ body.TightParagraph
-    tight_bodied body.Paragraph e = refl
-    tight_bodied other e = cc (e)
 
 pub other_stays : (item : Item) → is_paragraph item.body ≡ false → tight_if_paragraph item ≡ item
 other_stays item e =
@@ -85,16 +76,7 @@ pub record LaidLeft (change : Forest Item → Forest Item) (old : List (Node Ite
 
 pub all_left_laid : (change : Forest Item → Forest Item) (old : List (Node Item)) (first : Option ℕ)
     → LaidLeft change old first old first
-all_left_laid change old first = record {
-  left = λ front back f is at. record {
-    front = front;
-    back = back;
-    rest = f;
-    is = is;
-    at = at;
-    last = refl;
-  };
-}
+all_left_laid change old first = search (arith)
 
 pub none_left_laid : (change : Forest Item → Forest Item) → change nil ≡ nil → (old : List (Node Item))
     (first : Option ℕ) (nodes : List (Node Item)) (here : Option ℕ) → ((number : ℕ) → here ≡ Some number → ⊥)

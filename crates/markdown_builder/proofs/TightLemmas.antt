@@ -22,12 +22,7 @@ use Rattle.markdown_builder.proofs.NodeWriteLemmas.{Writes}
 
 -- at first all are left
 pub all_left : (S : ℕ → Type 0) (nodes : List (Node Item)) → MadeTight S S nodes nodes
-all_left S nodes = record {
-  size = refl;
-  links = λ d i. refl;
-  made = λ p s. inl s;
-  kept = λ p. inl refl;
-}
+all_left S nodes = search (arith, inl)
 
 -- a body is tight and no paragraph, or the other way round
 pub paragraph_or_tight : (b : ItemBody) → b ≡ body.Paragraph → b ≡ body.TightParagraph → ⊥
@@ -78,31 +73,13 @@ no_paragraph b h e = let p : is_paragraph b ≡ true = ap is_paragraph e in cc (
 pub one_made : (old new : List (Node Item)) (number : ℕ) → Writes old new number (tight (item_at old number))
     → is_paragraph (item_at old number).body ≡ true
     → MadeTight (λ p. p ≡ number) (λ p. ⊥) old new
-one_made old new number w h = record {
-  size = w.size;
-  links = w.all_links;
-  made = λ p e. inr (λ q. paragraph_or_tight (item_at new p).body q (ap (λ (n : ℕ). (item_at new n).body) e
-      ∙ ap (λ (y : Item). y.body) w.new_item));
-  kept = λ p. ⊎_elim
-      (λ (e : p ≡ number). inr (record {
-        inside = e;
-        was = ap (λ (n : ℕ). (item_at old n).body) e ∙ is_a_paragraph (item_at old number).body h;
-        now = ap (λ (n : ℕ). item_at new n) e ∙ (w.new_item ∙ ap (λ (n : ℕ). tight (item_at old n)) (sym e));
-      }))
-      (λ (k : p ≡ number → ⊥). inl (w.old_items p k))
-      (same_or_not p number);
-}
+one_made old new number w h =
+    search (arith, inr, paragraph_or_tight, item_at, is_a_paragraph, tight, inl, same_or_not, w.old_items)
 
 -- what is no paragraph stays
 pub none_made : (nodes : List (Node Item)) (number : ℕ) → is_paragraph (item_at nodes number).body ≡ false
     → MadeTight (λ p. p ≡ number) (λ p. ⊥) nodes nodes
-none_made nodes number h = record {
-  size = refl;
-  links = λ d i. refl;
-  made = λ p e. inr (λ q. no_paragraph (item_at nodes number).body h (ap (λ (n : ℕ). (item_at nodes n).body) (sym e)
-      ∙ q));
-  kept = λ p. inl refl;
-}
+none_made nodes number h = search (arith, inr, no_paragraph, item_at, inl)
 
 -- ---- chains
 
@@ -144,10 +121,7 @@ item_same old new h list p i = record {
 -- a list is as tight as it was
 pub list_same : (S Left : ℕ → Type 0) (old new : List (Node Item)) (list : ℕ) → MadeTight S Left old new
     → is_tight_list (item_at new list).body ≡ is_tight_list (item_at old list).body
-list_same S Left old new list m = ⊎_elim
-    (λ (e : item_at new list ≡ item_at old list). ap (λ (y : Item). is_tight_list y.body) e)
-    (λ (t : Tightened S old new list). ap (λ (y : Item). is_tight_list y.body) t.now ∙ sym (ap is_tight_list t.was))
-    (m.kept list)
+list_same S Left old new list m = search (arith, item_at, is_tight_list, m.kept)
 
 -- ---- what is still to be done
 
@@ -227,9 +201,7 @@ pub record ItemsLeft (nodes now : List (Node Item)) (list : ℕ) (link : Option 
 pub leads_to : (nodes now : List (Node Item)) (link : Option ℕ) (number : ℕ) → length now ≡ length nodes
     → IfSome link (λ j. j < length nodes) → link ≡ Some number
     → number < length now
-leads_to nodes now link number size h e = let q : number < length nodes = subst
-    (λ (o : Option ℕ). IfSome o (λ j. j < length nodes)) e h
-    in omega (arith, q, size)
+leads_to nodes now link number size h e = search (arith, length)
 
 pub sibling_step : (nodes old new : List (Node Item)) (first link next : Option ℕ) (number : ℕ)
     → AreRising (links_of nodes)
@@ -281,23 +253,13 @@ item_step nodes old new list link next first number r l e below n f =
 pub rising_still : (S Left : ℕ → Type 0) (nodes now : List (Node Item)) → MadeTight S Left nodes now
     → AreRising (links_of nodes)
     → AreRising (links_of now)
-rising_still S Left nodes now m r = record {
-  rises = λ d i j e. let q = r.rises d i j (sym (m.links d i) ∙ e) in (q.0, omega (arith, q.1, m.size));
-  once = λ d b i h j e f. r.once d b i h j (sym (m.links d i) ∙ e) (sym (m.links b h) ∙ f);
-}
+rising_still S Left nodes now m r = search (arith, r.rises, m.links, r.once)
 
 -- nothing is left where a chain ends
 pub siblings_done : (nodes now : List (Node Item)) (first link : Option ℕ) → SiblingsLeft nodes now first link
     → ((number : ℕ) → link ≡ Some number → ⊥)
     → MakesTight (λ p. IsInChain nodes first p) nodes now
-siblings_done nodes now first link l none = record {
-  size = l.makes.size;
-  links = l.makes.links;
-  made = λ p s. ⊎_elim (λ (c : IsInChain nodes link p). absurd (nothing_in nodes link p none c))
-      (λ (q : (item_at now p).body ≡ body.Paragraph → ⊥). inr q)
-      (l.makes.made p s);
-  kept = l.makes.kept;
-}
+siblings_done nodes now first link l none = search (arith, nothing_in, item_at, inr, l.makes.made)
 
 pub items_done : (nodes now : List (Node Item)) (list : ℕ) (link : Option ℕ) → ItemsLeft nodes now list link
     → ((number : ℕ) → link ≡ Some number → ⊥)
@@ -314,21 +276,7 @@ items_done nodes now list link l none = record {
 pub items_left : (nodes : List (Node Item)) (list : ℕ) (link : Option ℕ) → link ≡ child_of nodes list
     → IfSome link (λ j. j < length nodes)
     → ItemsLeft nodes nodes list link
-items_left nodes list link e within = record {
-  makes = record {
-    size = refl;
-    links = λ d i. refl;
-    made = λ p s. inl (record {
-      item = s.item;
-      listed = subst (λ (o : Option ℕ). IsInChain nodes o s.item) (sym e) s.listed;
-      inside =
-          s.inside;
-    });
-    kept = λ p. inl refl;
-  };
-  inside = λ p c. subst (λ (o : Option ℕ). IsInChain nodes o p) e c;
-  within = within;
-}
+items_left nodes list link e within = search (arith, inl)
 
 -- ---- steps
 

@@ -3,7 +3,7 @@
 use Rattle.std.proofs.Common.{◌≡◌, ℕ, ◌<◌, ◌≤◌, List, [], ◌∷◌, ◌++◌, Option, Some, None, Bool, true, false, length}
 use Rattle.std.proofs.Common.{refl, sym, ap, ◌∙◌}
 use Rattle.std.proofs.Common.{subst, arith, ⊎_elim}
-use Rattle.std.specs.Prelude.{IfSome, ⊤}
+use Rattle.std.specs.Prelude.{⊤}
 use Rattle.std.specs.List.{AllByRecursion}
 use Rattle.std.specs.Str.{IsCharBoundary}
 use Rattle.std.proofs.lemmas.Bool.{cases_lt}
@@ -112,14 +112,8 @@ last_written : (text : List ℕ) (old new : List (Node Item)) (number : ℕ) (x 
     → Writes old new number x
     → run_character x.body ≡ None → LastRun text old cursor run → LastRun text new cursor run
 last_written text old new number x None run w none l = tt
-last_written text old new number x (Some c) run w none l = ⊎_elim
-    (λ (q : c ≡ number). let e : item_at new c ≡ x = ap (λ (n : ℕ). item_at new n) q ∙ w.new_item in
-    let none_here : run_character (item_at new c).body ≡ None = ap (λ (y : Item). run_character y.body) e
-    ∙ none in rw none_here tt)
-    (λ (q : c ≡ number → ⊥). subst (λ (y : Item). IfSome (run_character y.body) (λ r. run ≡ Some (byte_of text y)))
-    (sym (w.old_items c q))
-    l)
-    (same_or_not c number)
+last_written text old new number x (Some c) run w none l =
+    search (arith, item_at, run_character, byte_of, same_or_not, w.new_item, w.old_items)
 
 -- a block is written in the place of a block
 pub block_written : (s : State) (number : ℕ) (x : Item) (blocks : List OpenBlock) → IsSound s
@@ -163,10 +157,7 @@ pub record StandsBelow (from : ℕ) (s : State) : Type 0 where
 -- the root is no paragraph
 not_root : (text : List ℕ) (counts : PartCounts) (nodes : List (Node Item)) (number : ℕ) → KeepsNodes text counts nodes
     → (item_at nodes number).body ≡ body.Paragraph → 0 < number
-not_root text counts nodes number k p = ⊎_elim (λ (h : 0 < number). h)
-    (λ (h : number ≤ 0). let z : number ≡ 0 = omega (arith, h) in
-    let b : body.Paragraph ≡ body.Root = sym p ∙ (ap (λ (n : ℕ). (item_at nodes n).body) z ∙ k.root) in cc (b))
-    (cases_lt 0 number)
+not_root text counts nodes number k p = search (arith, item_at, cases_lt)
 
 -- a paragraph is made tight
 made_tight : (from : ℕ) (s : State) (number : ℕ) → StandsBelow from s → from ≤ number → number < length s.tree.nodes
@@ -215,20 +206,7 @@ pub list_made_tight : (n : ℕ) (s : State) (tree : Arena Item) → IsLeft n s �
     → TightensList n s.tree tree → IsLaidOut tree
     → IsSound (record s { tree = tree })
 list_made_tight n s tree k at t laid =
-    let b = tightens_keeps n s tree (record {
-      below = k.below;
-      stands = k.stands;
-      runs = k.runs;
-      last_run = k.last_run;
-    }) t.steps in
-    record {
-      utf8 = k.utf8;
-      stands = b.stands;
-      runs = b.runs;
-      last_run = b.last_run;
-      lists = lists_closed s.tree tree n k.stands.nodes.rising k.low k.below at k.others t;
-      laid = laid;
-    }
+    search (arith, tightens_keeps, lists_closed, t.steps, s.tree, k.stands.nodes.rising, k.low, k.below, k.others)
 
 -- ---- another open block in the place of the innermost
 
