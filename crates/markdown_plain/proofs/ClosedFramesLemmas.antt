@@ -1,10 +1,10 @@
 -- Open containers that are closed: the blocks are the same.
 use Rattle.std.proofs.Common.{◌≡◌, ◌∙◌, ℕ, zero, suc, ◌-◌, ◌<◌, ◌≤◌, Bool, true, false, List, [], ◌∷◌, ◌++◌, Some}
 use Rattle.std.proofs.Common.{None, append-nil, not, true≢false, length, length-append, take, drop, length-take-le}
-use Rattle.std.proofs.Common.{take_all, refl, sym, ap, subst, arith}
+use Rattle.std.proofs.Common.{take_all, refl, sym, ap, arith}
 use Rattle.std.proofs.lemmas.List.{drop_all}
-use Rattle.std.specs.Prelude.{slice_get, if◌then◌else◌}
-use Rattle.std.specs.Option.{option_map, option_map_or}
+use Rattle.std.specs.Prelude.{if◌then◌else◌}
+use Rattle.std.specs.Option.{option_map}
 use Rattle.std.proofs.lemmas.Option.{same_Some}
 use Rattle.markdown_base.specs.Forest.{Forest, nil, node}
 use Rattle.markdown_base.specs.declared.item.ItemBody.{ItemBody}
@@ -18,17 +18,15 @@ use Rattle.markdown_base.specs.Source.{Source}
 use Rattle.markdown_block_rules.specs.BlockGrowth as was
 use Rattle.markdown_block_rules.specs.BlockGrowth.{Block, Kind}
 use Rattle.markdown_block_rules.specs.BlockRules.{Around, block_end, in_no_item, is_blank_block, is_loose, last_end}
-use Rattle.markdown_block_rules.specs.BlockRules.{definitions_in, footnotes_in, shown_block, shown_blocks, shown_over}
-use Rattle.markdown_plain.specs.declared.looseness.Looseness.{Looseness}
+use Rattle.markdown_block_rules.specs.BlockRules.{shown_block, shown_blocks, shown_over}
 use Rattle.markdown_plain.specs.declared.pass.Pass.{Pass}
-use Rattle.markdown_plain.specs.declared.placing.Placing.{Placing}
 use Rattle.markdown_plain.specs.Closing.{AreItemsInLists, MayClose, StandsFor}
 use Rattle.markdown_plain.specs.Fitting.{HasBody, PutsBlock, closed, stepped}
 use Rattle.markdown_plain.specs.Frames.{AreNested, Frame, forgotten, innermost_is, is_list, is_quote, rebuilt}
 use Rattle.markdown_plain.specs.Frames.{room_depth}
 use Rattle.markdown_plain.specs.OpenBlocks as blocks
 use Rattle.markdown_plain.specs.OpenBlocks.{outer_of}
-use Rattle.markdown_plain.specs.Settled.{AreOpen, IsBodyOf, IsBuilt, IsOpen, QuotesEnd, are_loose, around_in}
+use Rattle.markdown_plain.specs.Settled.{AreOpen, IsBodyOf, IsOpen, QuotesEnd, are_loose, around_in}
 use Rattle.markdown_plain.specs.Settled.{levels_shown, placed_end}
 use Rattle.markdown_plain.proofs.FramesLemmas.{rebuilt_more}
 use Rattle.markdown_plain.proofs.LeafTreesLemmas.{closed_tree, get_last, same_block}
@@ -57,9 +55,7 @@ pub shown_of_both : (s : Source) (around : Around) (f g : Forest Block)
 unfolding shown_blocks
 shown_of_both s around nil g = refl
 shown_of_both s around (node b below after) g =
-    ap (λ rest. followed_by (shown_block s around b (block_end b (last_end b.first below) b.kind) below
-    (λ inside. shown_blocks s inside below) b.kind) rest) (shown_of_both s around after g)
-    ∙ sym (followed_by-assoc _ (shown_blocks s around after) (shown_blocks s around g))
+    rw (shown_of_both s around after g, followed_by-assoc)
 
 -- in an open container no list is tight yet
 pub none_tight : (b : Block) (kind : Kind) → (around_in b kind).tight ≡ false
@@ -76,9 +72,7 @@ pub levels_parted : (s : Source) (around : Around) (frames : List Frame) (f : Fr
     → levels_shown s around (frames ++ f ∷ []) inside
     ≡ levels_shown s around frames f.before ++ shown_blocks s (around_in f.block f.block.kind) inside ∷ []
 levels_parted s around [] f inside = refl
-levels_parted s around (g ∷ frames) f inside =
-    ap (λ levels. shown_blocks s around g.before ∷ levels)
-    (levels_parted s (around_in g.block g.block.kind) frames f inside)
+levels_parted s around (g ∷ frames) f inside = cc (levels_parted s (around_in g.block g.block.kind) frames f inside)
 
 pub some_level : (s : Source) (around : Around) (frames : List Frame) (inside : Forest Block)
     → levels_shown s around frames inside ≡ [] → ⊥
@@ -89,25 +83,19 @@ levels_grown : (s : Source) (around : Around) (frames : List Frame) (f : Frame) 
     (new : Forest Shown) → around.tight ≡ false
     → ((other : Around) → other.tight ≡ false → new ≡ shown_blocks s other (node f.block inside nil))
     → with_trees (levels_shown s around frames f.before) new ≡ levels_shown s around frames (forgotten f inside)
-levels_grown s around [] f inside new loose is =
-    ap (λ trees. followed_by (shown_blocks s around f.before) trees ∷ []) (is around loose)
-    ∙ ap (λ level. level ∷ []) (sym (shown_of_both s around f.before (node f.block inside nil)))
+levels_grown s around [] f inside new loose is = rw (is around loose, shown_of_both)
 levels_grown s around (g ∷ []) f inside new loose is =
-    ap (λ levels. shown_blocks s around g.before ∷ levels)
-    (levels_grown s (around_in g.block g.block.kind) [] f inside new (none_tight g.block g.block.kind) is)
+    cc (levels_grown s (around_in g.block g.block.kind) [] f inside new (none_tight g.block g.block.kind) is)
 levels_grown s around (g ∷ h ∷ frames) f inside new loose is =
-    ap (λ levels. shown_blocks s around g.before ∷ levels)
-    (levels_grown s (around_in g.block g.block.kind) (h ∷ frames) f inside new (none_tight g.block g.block.kind) is)
+    cc (levels_grown s (around_in g.block g.block.kind) (h ∷ frames) f inside new (none_tight g.block g.block.kind) is)
 
 levels_closed : (s : Source) (frames : List Frame) (f : Frame) (inside : Forest Block) (a : Shown)
     → IsClosedItem s f inside a
     → with_block (levels_shown s in_no_item (frames ++ f ∷ []) inside) a
     ≡ levels_shown s in_no_item frames (forgotten f inside)
 levels_closed s frames f inside a is =
-    ap (λ levels. with_block levels a) (levels_parted s in_no_item frames f inside)
-    ∙ (closed_tree (levels_shown s in_no_item frames f.before)
-    (shown_blocks s (around_in f.block f.block.kind) inside) a (some_level s in_no_item frames f.before)
-    ∙ levels_grown s in_no_item frames f inside _ refl is)
+    rw (levels_parted, closed_tree _ _ a (some_level s in_no_item frames f.before))
+    (levels_grown s in_no_item frames f inside _ refl is)
 
 -- ---- the item of a container
 
@@ -135,27 +123,17 @@ list_shown : (s : Source) (start end character first : ℕ) (inside : Forest Blo
     ≡ shown_over start end (body.List (not loose) character first) None
     (shown_blocks s (record { tight = not loose; marked = 0 }) inside)
 list_shown s start end character first inside items true = refl
-list_shown s start end character first inside items false =
-    ap (λ below. shown_over start end (body.List true character first) None below) (items_made_tight s inside items)
+list_shown s start end character first inside items false = rw (items_made_tight s inside items)
 
 container_shown : (s : Source) (parts : Parts) (around : Around) (b : Block) (inside : Forest Block) (kind : Kind)
     (opened : ItemBody) → IsBodyOf parts.texts kind opened → AreItemsInLists (is_list kind) inside
     → around.tight ≡ false → IsShownClosed s parts around b inside kind opened
-container_shown s parts around b inside was.quote_container opened is items loose =
-    subst (λ now. IsShownClosed s parts around b inside was.quote_container now) (sym is) refl
-container_shown s parts around b inside (was.alert_container kind) opened is items loose =
-    subst (λ now. IsShownClosed s parts around b inside (was.alert_container kind) now) (sym is) refl
+container_shown s parts around b inside was.quote_container opened is items loose = rw is
+container_shown s parts around b inside (was.alert_container kind) opened is items loose = rw is
 container_shown s parts around b inside (was.list_container marker) opened is items loose =
-    subst (λ now. IsShownClosed s parts around b inside (was.list_container marker) now) (sym is)
-    (list_shown s b.start _ marker.character marker.first inside items (is_loose inside))
-container_shown s parts around b inside (was.item_container indent) opened is items loose =
-    subst (λ now. IsShownClosed s parts around b inside (was.item_container indent) now) (sym is)
-    (ap (λ tight. shown_over b.start (last_end b.first inside) (body.ListItem indent) None
-    (shown_blocks s (record { tight = tight; marked = b.first }) inside)) (sym loose))
-container_shown s parts around b inside (was.footnote_container label) opened is items loose =
-    subst (λ now. IsShownClosed s parts around b inside (was.footnote_container label) now) (sym is.1)
-    (ap (λ text. shown_over b.start (last_end b.first inside) (body.FootnoteDefinition (record { 0 = 0 })) text
-    (shown_blocks s in_no_item inside)) is.2)
+    rw is (list_shown s b.start _ marker.character marker.first inside items (is_loose inside))
+container_shown s parts around b inside (was.item_container indent) opened is items loose = rw (is, loose)
+container_shown s parts around b inside (was.footnote_container label) opened is items loose = rw (is.1, is.2)
 container_shown s parts around b inside other opened is items loose = absurd is
 
 -- ---- where blocks end
@@ -176,10 +154,7 @@ end_closed : (before : ℕ) (frames : List Frame) (f : Frame) (inside : Forest B
     → is_blank_block f.block.kind ≡ false
     → placed_end before frames (forgotten f inside)
     ≡ block_end f.block (last_end f.block.first inside) f.block.kind
-end_closed before [] f inside some =
-    end_of_both before f.before (node f.block inside nil)
-    ∙ ap (λ blank. if blank then last_end before f.before
-    else block_end f.block (last_end f.block.first inside) f.block.kind) some
+end_closed before [] f inside some = rw (end_of_both before f.before (node f.block inside nil), some)
 end_closed before (g ∷ frames) f inside some = end_closed g.block.first frames f inside some
 
 quotes_outside : (to : ℕ) (frames : List Frame) (f : Frame) → QuotesEnd to (frames ++ f ∷ [])
@@ -207,8 +182,13 @@ pub record IsOpenInside (texts : List (List ℕ)) (blocks : List OpenBlock) (fra
 innermost_open : (texts : List (List ℕ)) (blocks : List OpenBlock) (frames : List Frame) (f : Frame)
     → AreOpen texts blocks (frames ++ f ∷ []) → IsOpenInside texts blocks frames f
 innermost_open texts [] [] f are = absurd are
-innermost_open texts (block ∷ []) [] f are =
-    record { block = block; outer = []; is = refl; opened = are.0; outside = tt }
+innermost_open texts (block ∷ []) [] f are = record {
+  block = block;
+  outer = [];
+  is = refl;
+  opened = are.0;
+  outside = tt;
+}
 innermost_open texts (block ∷ other ∷ blocks) [] f are = absurd are.1
 innermost_open texts [] (g ∷ frames) f are = absurd are
 innermost_open texts (block ∷ blocks) (g ∷ frames) f are =
@@ -216,9 +196,12 @@ innermost_open texts (block ∷ blocks) (g ∷ frames) f are =
     record {
       block = last.block;
       outer = block ∷ last.outer;
-      is = ap (λ others. block ∷ others) last.is;
+      is = cc;
       opened = last.opened;
-      outside = (are.0, last.outside);
+      outside = (
+        are.0,
+        last.outside,
+      );
     }
 
 pub as_many_open : (texts : List (List ℕ)) (blocks : List OpenBlock) (frames : List Frame) → AreOpen texts blocks frames
@@ -238,15 +221,14 @@ loose_parted : (frames : List Frame) (f : Frame) (inside : Forest Block)
     → are_loose (frames ++ f ∷ []) inside ≡ are_loose frames (forgotten f inside) ++ own_looseness f inside
 loose_parted [] f inside = refl
 loose_parted (g ∷ frames) f inside =
-    both (is_list g.block.kind) _ _ _ _ (ap is_loose (rebuilt_more frames f inside)) (loose_parted frames f inside)
+    by_kind (is_list g.block.kind) _ _ _ _ (ap is_loose (rebuilt_more frames f inside)) (loose_parted frames f inside)
   where
-    both : (test before after : Bool) (flags others : List Bool) → before ≡ after
+    by_kind : (test before after : Bool) (flags others : List Bool) → before ≡ after
         → flags ≡ others ++ own_looseness f inside
         → (if test then before ∷ flags else flags)
         ≡ (if test then after ∷ others else others) ++ own_looseness f inside
-    both true before after flags others same more =
-        ap (λ flag. flag ∷ flags) same ∙ ap (λ flags. after ∷ flags) more
-    both false before after flags others same more = more
+    by_kind true before after flags others same more = cc
+    by_kind false before after flags others same more = more
 
 -- ---- one container closed
 
@@ -256,15 +238,11 @@ AreAlike kind block = (is_list kind ≡ blocks.is_list block) × (is_quote kind 
     × (is_blank_block kind ≡ false)
 
 are_alike : (texts : List (List ℕ)) (kind : Kind) (block : ItemBody) → IsBodyOf texts kind block → AreAlike kind block
-are_alike texts was.quote_container block is = subst (AreAlike was.quote_container) (sym is) (refl, refl, refl)
-are_alike texts (was.alert_container kind) block is =
-    subst (AreAlike (was.alert_container kind)) (sym is) (refl, refl, refl)
-are_alike texts (was.list_container marker) block is =
-    subst (AreAlike (was.list_container marker)) (sym is) (refl, refl, refl)
-are_alike texts (was.item_container indent) block is =
-    subst (AreAlike (was.item_container indent)) (sym is) (refl, refl, refl)
-are_alike texts (was.footnote_container label) block is =
-    subst (AreAlike (was.footnote_container label)) (sym is.1) (refl, refl, refl)
+are_alike texts was.quote_container block is = rw is (refl, refl, refl)
+are_alike texts (was.alert_container kind) block is = rw is (refl, refl, refl)
+are_alike texts (was.list_container marker) block is = rw is (refl, refl, refl)
+are_alike texts (was.item_container indent) block is = rw is (refl, refl, refl)
+are_alike texts (was.footnote_container label) block is = rw is.1 (refl, refl, refl)
 are_alike texts other block is = absurd is
 
 -- where a container ends that is no block quote, and one that is
@@ -309,36 +287,32 @@ forget : (s : Source) (old new : Pass) (frames : List Frame) (f : Frame) (inside
     → (last : IsOpenInside old.placing.builder.texts old.placing.builder.blocks frames f)
     → IsClosed old new f inside last.block → MayClose s new frames (forgotten f inside)
 forget s old new frames f inside may last is =
-    let built = may.stands.built in
     let before = old.placing.builder in
-    let view = new.placing.builder in
-    let tests = are_alike before.texts f.block.kind last.block.body last.opened.body in
+    let built = may.stands.built in
     let same = rebuilt_more frames f inside in
-    let item = closed_as (parts_of before) last.block view.at (is_loose inside) in
-    let outer : view.blocks ≡ last.outer =
-    ap (λ (b : BuilderView). b.blocks) is.builder ∙ outer_of_these before.blocks last.outer last.block last.is in
+    let outer = outer_of_these before.blocks last.outer last.block last.is in
+    let item = closed_item s f inside (parts_of before) last.block new.placing.builder.at last.opened
+    (items_inside false frames f inside may.stands.items) is.at in
+    let blocks : AreOpen new.placing.builder.texts new.placing.builder.blocks frames = rw (
+      is.builder,
+      outer,
+    ) last.outside in
+    let ends = end_closed 0 frames f inside (are_alike before.texts f.block.kind last.block.body last.opened.body).2 in
+    let quotes : QuotesEnd new.placed frames = rw is.placed
+    (quotes_outside old.placed frames f may.stands.ends.quotes).0 in
     record {
       stands = record {
         built = record {
-          text = ap (λ (b : BuilderView). b.text) is.builder ∙ built.text;
-          blocks = subst (λ ts. AreOpen ts view.blocks frames) (sym (ap (λ (b : BuilderView). b.texts) is.builder))
-              (subst (λ bs. AreOpen before.texts bs frames) (sym outer) last.outside);
+          text = cc;
+          blocks = blocks;
           nested = nested_outside frames f built.nested;
-          outside = ap (λ (b : BuilderView). b.leaf) is.builder;
-          levels = is.levels ∙ (ap (λ levels. with_block levels item) built.levels
-              ∙ levels_closed s frames f inside item
-              (closed_item s f inside (parts_of before) last.block view.at last.opened
-              (items_inside false frames f inside may.stands.items) is.at));
-          definitions = ap (λ (b : BuilderView). b.definitions) is.builder
-              ∙ (built.definitions ∙ ap (definitions_in s) same);
-          footnotes = ap (λ (b : BuilderView). b.footnotes) is.builder ∙ (built.footnotes ∙ ap footnotes_in same);
+          outside = cc;
+          levels = rw (is.levels, built.levels) (levels_closed s frames f inside _ item);
+          definitions = rw (is.builder, ← same) built.definitions;
+          footnotes = rw (is.builder, ← same) built.footnotes;
         };
-        ends = record {
-          at = is.at ∙ sym (end_closed 0 frames f inside tests.2);
-          quotes = subst (λ to. QuotesEnd to frames) (sym is.placed)
-              (quotes_outside old.placed frames f may.stands.ends.quotes).0;
-        };
-        items = subst (AreItemsInLists false) same may.stands.items;
+        ends = record { at = cc; quotes = quotes };
+        items = rw (← same) may.stands.items;
       };
       lists = is.lists (are_loose frames (forgotten f inside)) (may.lists ∙ loose_parted frames f inside);
     }
@@ -354,8 +328,7 @@ last_open s pass frames f inside stands =
 
 innermost_test : (test : ItemBody → Bool) (these outer : List OpenBlock) (block : OpenBlock)
     → these ≡ outer ++ block ∷ [] → blocks.innermost_is test these ≡ test block.body
-innermost_test test these outer block is =
-    ap (λ found. option_map_or (λ b. test b.body) found false) (ap innermost_block is ∙ innermost_of_opened outer block)
+innermost_test test these outer block is = cc (ap innermost_block is, innermost_of_opened outer block)
 
 -- a list is given its looseness, and closed
 pub record ClosesList (old new : Pass) (character first : ℕ) : Type 0 where
@@ -393,23 +366,17 @@ other_closed s old new to frames f inside may closes ends =
     let before = old.placing.builder in
     let last = last_open s old frames f inside may.stands in
     let unlisted = sym (innermost_test blocks.is_list before.blocks last.outer last.block last.is) ∙ closes.other in
-    let alike = are_alike before.texts f.block.kind last.block.body last.opened.body in
-    let at = ap (λ (b : BuilderView). b.at) closes.closes in
+    let alike = (are_alike before.texts f.block.kind last.block.body last.opened.body).0 ∙ unlisted in
+    let stays = body_stays (is_loose inside) last.block.body unlisted in
     let put = same_block before.blocks (outer_of before.blocks) last.outer closes.puts.block last.block closes.puts.was
     last.is in
+    let at = ap (λ (b : BuilderView). b.at) closes.closes in
     record {
       builder = closes.closes ∙ ap (λ n. record (closed before new.placing.builder.levels) { at = n }) (sym at);
       at = at ∙ ends;
-      levels = closes.puts.levels ∙ ap (with_block before.levels)
-          (ap (λ (b : OpenBlock). shown_item (parts_of before)
-          (record { start = b.start; end = to; body = b.body })) put
-          ∙ (ap (λ block. shown_item (parts_of before) (record { start = last.block.start; end = to; body = block }))
-          (sym (body_stays (is_loose inside) last.block.body unlisted))
-          ∙ ap (λ n. closed_as (parts_of before) last.block n (is_loose inside)) (sym at)));
+      levels = rw (stays, at, ← put) closes.puts.levels;
       placed = closes.placed;
-      lists = λ outer is. ap (λ (l : Looseness). l.lists.items) closes.looseness ∙ (is
-          ∙ (ap (λ test. outer ++ (if test then is_loose inside ∷ [] else [])) (alike.0 ∙ unlisted)
-          ∙ append-nil outer));
+      lists = λ outer is. rw (closes.looseness, is, alike) (append-nil outer);
     }
 
 list_closed : (s : Source) (old new : Pass) (character first : ℕ) (frames : List Frame) (f : Frame)
@@ -426,37 +393,22 @@ list_closed s old new character first frames f inside may closes =
     let quoted : is_quote f.block.kind ≡ false = alike.1 ∙ ap blocks.is_quote is_body in
     let ends = ends_inside before.texts f.block.kind last.block.body last.opened.body quoted f.block
     (last_end f.block.first inside) in
-    let at = ap (λ (b : BuilderView). b.at) closes.closes in
     let decided = λ (outer : List Bool) (is : old.looseness.lists.items ≡ outer ++ own_looseness f inside).
-    closes.decides outer (is_loose inside) (is
-    ∙ ap (λ test. outer ++ (if test then is_loose inside ∷ [] else [])) listed) in
+    closes.decides outer (is_loose inside) (rw listed at is) in
     let loose = (decided (are_loose frames (forgotten f inside)) (may.lists ∙ loose_parted frames f inside)).0 in
-    let is_closed : body.List (not closes.loose) character first ≡ closed_body (is_loose inside) last.block.body =
-    ap (λ flag. body.List (not flag) character first) loose ∙ sym (ap (closed_body (is_loose inside)) is_body) in
+    let is_closed = ap (closed_body (is_loose inside)) is_body in
     let put = same_block closes.settled.blocks (outer_of closes.settled.blocks) (outer_of before.blocks)
     closes.puts.block (record closes.settles.block { body = body.List (not closes.loose) character first })
     closes.puts.was closes.settles.becomes in
     let was = same_block before.blocks (outer_of before.blocks) last.outer closes.settles.block last.block
     closes.settles.was last.is in
+    let at = ap (λ (b : BuilderView). b.at) closes.closes in
     record {
       builder = closes.closes ∙ ap (λ n. record (closed before new.placing.builder.levels) { at = n }) (sym at);
       at = at ∙ (may.stands.ends.at ∙ (end_inside 0 frames f inside ∙ sym ends));
       levels = closes.puts.levels ∙ (ap (λ (b : BuilderView). with_block b.levels (shown_item (parts_of b)
           (record { start = closes.puts.block.start; end = b.at; body = closes.puts.block.body }))) closes.same
-          ∙ ap (with_block before.levels)
-          (ap (λ (b : OpenBlock). shown_item (parts_of before)
-          (record { start = b.start; end = before.at; body = b.body })) put
-          ∙ (ap (λ (b : OpenBlock). shown_item (parts_of before) (record {
-            start = b.start;
-            end = before.at;
-            body = body.List (not closes.loose) character first;
-          })) was
-          ∙ (ap (λ block. shown_item (parts_of before) (record {
-            start = last.block.start;
-            end = before.at;
-            body = block;
-          })) is_closed
-          ∙ ap (λ n. closed_as (parts_of before) last.block n (is_loose inside)) (sym at)))));
+          ∙ rw (put, was, loose, at, is_closed));
       placed = closes.placed;
       lists = λ outer is. (decided outer is).1;
     }
@@ -479,10 +431,10 @@ quote_forgotten s old new frames f inside may quote closes =
     let last = last_open s old frames f inside may.stands in
     let alike = are_alike before.texts f.block.kind last.block.body last.opened.body in
     let quoted : is_quote f.block.kind ≡ true =
-    alike.1 ∙ (sym (innermost_test blocks.is_quote before.blocks last.outer last.block last.is) ∙ quote) in
+    cc (alike.1, innermost_test blocks.is_quote before.blocks last.outer last.block last.is) in
+    let ends = (quotes_outside old.placed frames f may.stands.ends.quotes).1 quoted in
     forget s old new frames f inside may last (other_closed s old new old.placed frames f inside may closes
-    (sym ((quotes_outside old.placed frames f may.stands.ends.quotes).1 quoted)
-    ∙ sym (ends_itself f.block.kind quoted f.block (last_end f.block.first inside))))
+    (cc (ends, ends_itself f.block.kind quoted f.block (last_end f.block.first inside))))
 
 -- the pass closes an item or a footnote definition
 pub other_forgotten : (s : Source) (old new : Pass) (frames : List Frame) (f : Frame) (inside : Forest Block)
@@ -494,11 +446,14 @@ other_forgotten s old new frames f inside may other closes =
     let last = last_open s old frames f inside may.stands in
     let alike = are_alike before.texts f.block.kind last.block.body last.opened.body in
     let unquoted : is_quote f.block.kind ≡ false =
-    alike.1 ∙ (sym (innermost_test blocks.is_quote before.blocks last.outer last.block last.is) ∙ other) in
+    cc (alike.1, innermost_test blocks.is_quote before.blocks last.outer last.block last.is) in
     forget s old new frames f inside may last (other_closed s old new before.at frames f inside may closes
-    (may.stands.ends.at ∙ (end_inside 0 frames f inside
-    ∙ sym (ends_inside before.texts f.block.kind last.block.body last.opened.body unquoted f.block
-    (last_end f.block.first inside)))))
+    (cc (
+      may.stands.ends.at,
+      end_inside 0 frames f inside,
+      ends_inside before.texts f.block.kind last.block.body last.opened.body unquoted f.block
+          (last_end f.block.first inside),
+    )))
 
 -- ---- more containers closed
 
@@ -512,8 +467,7 @@ pub last_kept : (n : ℕ) (frames : List Frame) → n < length frames → LastKe
 last_kept n [] more = absurd (omega (arith, more))
 last_kept zero (f ∷ frames) more = record { f = f; taken = refl; dropped = refl }
 last_kept (suc n) (g ∷ frames) more =
-    let last = last_kept n frames (omega (arith, more)) in
-    record { f = last.f; taken = ap (λ others. g ∷ others) last.taken; dropped = last.dropped }
+    let last = last_kept n frames (omega (arith, more)) in record { f = last.f; taken = cc; dropped = last.dropped }
 
 -- where this many containers are open, there are this many
 kept_within : (n : ℕ) (frames : List Frame) → n ≡ length (take n frames) → n ≤ length frames
@@ -529,15 +483,14 @@ pub one_less : (s : Source) (old new : Pass) (frames : List Frame) (inside : For
     → ((outer : List Frame) (f : Frame) (below : Forest Block) → MayClose s old (outer ++ f ∷ []) below
     → MayClose s new outer (forgotten f below)) → MayClose s new (take m frames) (rebuilt (drop m frames) inside)
 one_less s old new frames inside n m number less may forgets =
-    let many = as_many_open old.placing.builder.texts old.placing.builder.blocks (take n frames) may.stands.built.blocks
-    in
+    let many = as_many_open old.placing.builder.texts old.placing.builder.blocks
+    (take n frames) may.stands.built.blocks in
     let within = kept_within n frames (number ∙ many) in
     let last = last_kept m frames (omega (arith, within, less)) in
-    let these : MayClose s old (take m frames ++ last.f ∷ []) (rebuilt (drop (suc m) frames) inside) =
-    subst (λ outer. MayClose s old outer (rebuilt (drop (suc m) frames) inside)) last.taken
-    (subst (λ k. MayClose s old (take k frames) (rebuilt (drop k frames) inside)) (sym less) may) in
-    let done = forgets (take m frames) last.f (rebuilt (drop (suc m) frames) inside) these in
-    subst (λ inner. MayClose s new (take m frames) (rebuilt inner inside)) (sym last.dropped) done
+    rw last.dropped (forgets (take m frames) last.f (rebuilt (drop (suc m) frames) inside) (rw (
+      ← last.taken,
+      less,
+    ) may))
 
 -- as many are open as there are
 pub open_containers : (s : Source) (pass : Pass) (frames : List Frame) (inside : Forest Block)
@@ -557,14 +510,12 @@ kept_alike zero (suc depth) (f ∷ frames) most least = let none = least (omega 
 kept_alike (suc n) zero (f ∷ frames) most least = absurd (omega (arith, most))
 kept_alike (suc n) (suc depth) (f ∷ frames) most least =
     let others = kept_alike n depth frames (omega (arith, most)) (λ less. omega (arith, least (omega (arith, less)))) in
-    (ap (λ fs. f ∷ fs) others.0, others.1)
+    (cc, others.1)
 
 pub all_kept : (s : Source) (pass : Pass) (frames : List Frame) (inside : Forest Block) (n : ℕ) → n ≡ length frames
     → MayClose s pass frames inside → MayClose s pass (take n frames) (rebuilt (drop n frames) inside)
 all_kept s pass frames inside n all may =
-    subst (λ outer. MayClose s pass outer (rebuilt (drop n frames) inside))
-    (sym (take_all n frames (omega (arith, all))))
-    (subst (λ inner. MayClose s pass frames (rebuilt inner inside)) (sym (drop_all n frames (omega (arith, all)))) may)
+    rw (take_all n frames (omega (arith, all)), drop_all n frames (omega (arith, all))) may
 
 -- ---- room for a block
 
@@ -577,9 +528,8 @@ listed_alike s pass outer f inside stands =
     let last = last_open s pass outer f inside stands in
     let alike = are_alike builder.texts f.block.kind last.block.body last.opened.body in
     let count : length (outer ++ f ∷ []) - 1 ≡ length outer = omega (arith, length-append outer (f ∷ [])) in
-    ap (λ found. option_map_or (λ g. is_list g.block.kind) found false)
-    (ap (slice_get (outer ++ f ∷ [])) count ∙ get_last outer f)
-    ∙ (alike.0 ∙ sym (innermost_test blocks.is_list builder.blocks last.outer last.block last.is))
+    rw (count, get_last outer f)
+    (cc (alike.0, innermost_test blocks.is_list builder.blocks last.outer last.block last.is))
 
 -- the innermost of some open containers that are kept is a list, by its block or by its frame
 kept_list : (s : Source) (pass : Pass) (depth : ℕ) (frames : List Frame) (inside : Forest Block)
@@ -593,9 +543,7 @@ kept_list s pass zero frames inside few stands = none pass.placing.builder.block
     none (block ∷ others) are = absurd are
 kept_list s pass (suc n) frames inside few stands =
     let last = last_kept n frames (omega (arith, few)) in
-    ap (innermost_is is_list) last.taken
-    ∙ listed_alike s pass (take n frames) last.f inside
-    (subst (λ outer. StandsFor s pass outer inside) last.taken stands)
+    rw last.taken (listed_alike s pass (take n frames) last.f inside (rw last.taken at stands))
 
 -- no list is in the way
 pub no_list_closed : (s : Source) (pass : Pass) (depth : ℕ) (frames : List Frame) (inside : Forest Block)
@@ -604,9 +552,7 @@ pub no_list_closed : (s : Source) (pass : Pass) (depth : ℕ) (frames : List Fra
     → StandsFor s pass (take (room_depth depth frames) frames)
     (rebuilt (drop (room_depth depth frames) frames) inside)
 no_list_closed s pass depth frames inside few may other =
-    subst (λ n. StandsFor s pass (take n frames) (rebuilt (drop n frames) inside))
-    (sym (ap (λ test. if test then depth - 1 else depth)
-    (kept_list s pass depth frames _ few may.stands ∙ other))) may.stands
+    rw (kept_list s pass depth frames _ few may.stands ∙ other) may.stands
 
 -- the innermost, which is a list, is closed by a step of the pass
 pub list_in_the_way : (s : Source) (old new : Pass) (depth : ℕ) (frames : List Frame) (inside : Forest Block)
@@ -617,12 +563,9 @@ pub list_in_the_way : (s : Source) (old new : Pass) (depth : ℕ) (frames : List
     (rebuilt (drop (room_depth depth frames) frames) inside)
 list_in_the_way s old new depth frames inside few may listed forgets =
     let test = kept_list s old depth frames _ few may.stands ∙ listed in
-    let room : depth - 1 ≡ room_depth depth frames = sym (ap (λ t. if t then depth - 1 else depth) test) in
     let many = sym (open_containers s old (take depth frames) _ may ∙ length-take-le depth frames few) in
     let some : 0 < depth = some_open depth test in
-    let done = one_less s old new frames inside depth (depth - 1) many (omega (arith, some)) may forgets in (
-    subst (λ n. StandsFor s new (take n frames) (rebuilt (drop n frames) inside)) room done.stands
-    )
+    rw test (one_less s old new frames inside depth (depth - 1) many (omega (arith, some)) may forgets).stands
   where
     some_open : (n : ℕ) → innermost_is is_list (take n frames) ≡ true → 0 < n
     some_open zero test = cc (test)
@@ -633,10 +576,7 @@ pub stands_on : (s : Source) (old new : Pass) (frames : List Frame) (inside : Fo
     → new.placing ≡ old.placing → new.placed ≡ old.placed → StandsFor s old frames inside
     → StandsFor s new frames inside
 stands_on s old new frames inside placing placed stands = record {
-  built = subst (λ (p : Placing). IsBuilt s p.builder frames inside) (sym placing) stands.built;
-  ends = record {
-    at = ap (λ (p : Placing). p.builder.at) placing ∙ stands.ends.at;
-    quotes = subst (λ to. QuotesEnd to frames) (sym placed) stands.ends.quotes;
-  };
+  built = rw placing stands.built;
+  ends = record { at = rw placing stands.ends.at; quotes = rw placed stands.ends.quotes };
   items = stands.items;
 }

@@ -14,7 +14,6 @@ use Rattle.markdown_lines.specs.HeadingAttributes.{heading_of_words, words_in}
 use Rattle.markdown_builder.specs.declared.open_block.OpenBlock.{OpenBlock}
 use Rattle.markdown_builder.specs.BuilderView.{BuilderView, Definition, Opens, OpensAttributed, parts_of}
 use Rattle.markdown_lines.specs.Lines.{AllPass, is_in_blank_line, IsNextContent}
-use Rattle.markdown_plain.specs.CodeLines.{after_line}
 use Rattle.markdown_plain.specs.OpenBlocks.{outer_of, InnermostBecomes}
 
 -- a byte offset is not before the current one, and lies between characters
@@ -95,14 +94,3 @@ abbrev pub OpensFenced : BuilderView → BuilderView → (at next : ℕ) → Lis
 OpensFenced old new at next info =
     new ≡ record (opened old at (body.FencedCodeBlock (record { 0 = length old.texts })))
     { at = next; texts = old.texts ++ info ∷ [] }
-
--- an HTML block was opened with a line whose rest begins at a byte offset, and it starts at its first content byte
-pub record OpensHtml (old new : BuilderView) (from next : ℕ) : Type 0 where
-  pub start : ℕ
-  pub content : IsNextContent old.text from (Some start)
-  pub opens : new ≡ record (opened old start body.HtmlBlock) {
-    at = after_line from next;
-    run = new.run;
-    levels = new.levels;
-    texts = new.texts;
-  }

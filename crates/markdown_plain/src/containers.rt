@@ -14,7 +14,7 @@ ghost use Rattle.markdown_plain.specs.Fits.{MayStep};
 ghost use Rattle.markdown_plain.specs.Frames.{Frame, reached};
 ghost use Rattle.markdown_plain.specs.ReachedFrames.{IsBefore, IsReached};
 ghost use Rattle.markdown_plain.specs.OpenBlocks as open_blocks;
-ghost use Rattle.markdown_plain.specs.OpenBlocks.{outer_of, without_leaf, without_list};
+ghost use Rattle.markdown_plain.specs.OpenBlocks.{outer_of, without_list};
 ghost use Rattle.markdown_plain.specs.Stretches.{TakesNothing, deep_starts, taken_by};
 ghost use Rattle.markdown_base.specs.declared.item.ItemBody.TheVariants as body;
 
@@ -270,13 +270,8 @@ impl<'a> Pass<'a> {
         requires { MayOpenItem self.old depth at }
         ensures text { IfOk result (λ _. self.new.placing.builder.text
             ≡ self.old.placing.builder.text) }
-        ensures around { IfOk result (λ _. self.new.placing.builder.blocks
-            ≡ opening.around_item at item.marker
-            (take depth (without_leaf self.old.placing.builder))
-            ++ record { start = at; body = body.ListItem item.indent } ∷ []) }
         ensures here { IfOk result (λ _. self.new.placing.builder.at ≡ at) }
         ensures ended { IfOk result (λ _. self.new.lines.items ≡ []) }
-        ensures empty { IfOk result (λ _. self.new.looseness.item_is_empty ≡ true) }
         ensures begins { IfOk result (λ _. (s : Source) (frames : List Frame)
             (inside : Forest Block) (list b : Block) → MayOpen s self.old frames inside
             → depth ≡ length frames

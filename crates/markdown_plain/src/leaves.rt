@@ -1,6 +1,6 @@
 //! Leaf blocks other than paragraphs (CommonMark 4.1 to 4.6): how they are opened, and how they continue. Functions
 //! that return a `Result` fail only if an allocation fails.
-ghost use Rattle.std.specs.Prelude.{◌≡◌, ◌≤◌, ◌++◌, ◌∷◌, [], true, false, ℕ, List, Some, None, IfOk, slice_range};
+ghost use Rattle.std.specs.Prelude.{◌≡◌, ◌≤◌, ◌++◌, ◌∷◌, [], true, false, ℕ, List, Some, None, IfOk};
 ghost use Rattle.markdown_base.specs.declared.item.ItemBody.TheVariants as body;
 ghost use Rattle.markdown_scan.specs.Entity.{entity_names};
 ghost use Rattle.markdown_scan.specs.Unescape.{unescaped};
@@ -8,8 +8,7 @@ ghost use Rattle.markdown_lines.specs.LineBytes.{IsPartOf};
 ghost use Rattle.markdown_lines.specs.Lines.{IsNextContent};
 ghost use Rattle.markdown_lines.specs.MetadataBlocks.{closes_metadata};
 ghost use Rattle.markdown_plain.specs.declared.pass.LeafKind.TheVariants as leaf_kind;
-ghost use Rattle.markdown_base.specs.Forest.{Forest, nil};
-ghost use Rattle.markdown_builder.specs.BuilderView.{BuilderView};
+ghost use Rattle.markdown_base.specs.Forest.{Forest};
 ghost use Rattle.markdown_builder.specs.Shown.{chain_of};
 ghost use Rattle.markdown_builder.specs.TreeLevels.{followed_by};
 ghost use Rattle.markdown_base.specs.Source.{Source};
@@ -21,10 +20,10 @@ ghost use Rattle.markdown_block_rules.specs.BlockRules.{code_lines, shown_headin
 ghost use Rattle.markdown_items.specs.ContentItems.{content_items};
 ghost use Rattle.markdown_items.specs.LineItems.{item_syntax};
 ghost use Rattle.markdown_block_rules.specs.LineContents.{source_line, source_lines};
-ghost use Rattle.markdown_plain.specs.CodeLines.{after_line, code_after, ends_html_at, held, is_closed_at, whole_of};
+ghost use Rattle.markdown_plain.specs.CodeLines.{after_line, code_after, ends_html_at, held, whole_of};
 ghost use Rattle.markdown_plain.specs.Fitting.{GoesOn, IsAhead, OpensFenced};
-ghost use Rattle.markdown_plain.specs.Fitting.{BracesStand, OpensHeading, OpensHeadingOf, OpensHtml, PutsBlock};
-ghost use Rattle.markdown_plain.specs.Fitting.{closed, extended, opened, stepped};
+ghost use Rattle.markdown_plain.specs.Fitting.{BracesStand, OpensHeading, OpensHeadingOf, PutsBlock};
+ghost use Rattle.markdown_plain.specs.Fitting.{closed, opened};
 ghost use Rattle.markdown_plain.specs.Fits.{IsInLeaf, MayAddAfter, MayAddBefore, MayAddHeading, MayAddLine, MayAddLines};
 ghost use Rattle.markdown_plain.specs.Fits.{MayOpenHtml, MayOpenLeaf, after_lines};
 ghost use Rattle.markdown_plain.specs.Frames.{Frame};
@@ -146,10 +145,6 @@ impl<'a> Pass<'a> {
         requires ahead { IsAhead self.old.placing.builder line.next }
         ensures text { IfOk result (λ _. self.new.placing.builder.text
             ≡ self.old.placing.builder.text) }
-        ensures adds { IfOk result (λ _. self.new.placing.builder
-            ≡ extended self.old.placing.builder self.new.placing.builder.levels line.next) }
-        ensures tree { IfOk result (λ _. HasTrees self.old.placing.builder self.new.placing.builder
-            (shown_over self.old.placing.builder.at line.next body.Rule None nil)) }
         ensures leaf { IfOk result (λ _. (s : Source) (frames : List Frame) (inside : Forest Block)
             (b : Block) → IsBuilt s self.old.placing.builder frames inside → b.kind ≡ break_leaf
             → b.start ≡ self.old.placing.builder.at → b.last ≡ line.next
@@ -230,25 +225,6 @@ impl<'a> Pass<'a> {
         requires ordered { position.at ≤ line.next }
         ensures text { IfOk result (λ _. self.new.placing.builder.text
             ≡ self.old.placing.builder.text) }
-        ensures closes { IfOk result (λ _.
-            is_closed_at self.old.placing.builder.text position line fence ≡ true →
-            self.new.placing.builder
-            ≡ record (closed self.old.placing.builder self.new.placing.builder.levels)
-            { at = line.next }) }
-        ensures tree { IfOk result (λ _.
-            is_closed_at self.old.placing.builder.text position line fence ≡ true →
-            PutsBlock (stepped self.old.placing.builder line.next) self.new.placing.builder) }
-        ensures items { IfOk result (λ _. (source : SourceLine)
-            → IsRest self.old.placing.builder.text position line source
-            → is_closed_at self.old.placing.builder.text position line fence ≡ false
-            → HasItems self.old.placing.builder self.new.placing.builder
-            (source_line (body.Text false) (cut fence.indent source))) }
-        ensures code { IfOk result (λ _. is_closed_at self.old.placing.builder.text
-            position line fence
-            ≡ false →
-            GoesOn self.old.placing.builder self.new.placing.builder
-            (after_line (code_after self.old.placing.builder.text position line
-            fence.indent).scanned line.next)) }
         ensures leaf { IfOk result (λ _. (s : Source) (frames : List Frame) (inside : Forest Block)
             (b : Block) (opening : OpeningFence) (lines : List SourceLine) (source : SourceLine)
             (kind : Kind) → IsLeafIn s self.old.placing.builder frames inside b false
@@ -276,9 +252,6 @@ impl<'a> Pass<'a> {
         requires { MayOpenLeaf self.old.placing.builder line.start line.next }
         ensures text { IfOk result (λ _. self.new.placing.builder.text
             ≡ self.old.placing.builder.text) }
-        ensures opens { IfOk result (λ _. self.new.placing.builder
-            ≡ record (opened self.old.placing.builder line.start (body.MetadataBlock kind))
-            { at = line.next }) }
         ensures leaf { IfOk result (λ _. (s : Source) (frames : List Frame) (inside : Forest Block)
             (b : Block) → IsBuilt s self.old.placing.builder frames inside
             → b.kind ≡ metadata_leaf kind false [] → b.start ≡ line.start → b.last ≡ line.next
@@ -300,23 +273,6 @@ impl<'a> Pass<'a> {
         requires ordered { line.start ≤ line.next }
         ensures text { IfOk result (λ _. self.new.placing.builder.text
             ≡ self.old.placing.builder.text) }
-        ensures closes { IfOk result (λ _. closes_metadata kind
-            (slice_range self.old.placing.builder.text line.start line.stop) ≡ true →
-            self.new.placing.builder
-            ≡ record (closed self.old.placing.builder self.new.placing.builder.levels)
-            { at = line.next }) }
-        ensures tree { IfOk result (λ _. closes_metadata kind
-            (slice_range self.old.placing.builder.text line.start line.stop) ≡ true →
-            PutsBlock (stepped self.old.placing.builder line.next) self.new.placing.builder) }
-        ensures items { IfOk result (λ _. (source : SourceLine)
-            → IsHeld (whole_of line) source → closes_metadata kind
-            (slice_range self.old.placing.builder.text line.start line.stop) ≡ false
-            → HasItems self.old.placing.builder self.new.placing.builder
-            (source_line (body.Text false) source)) }
-        ensures text_line { IfOk result (λ _. closes_metadata kind
-            (slice_range self.old.placing.builder.text line.start line.stop) ≡ false →
-            GoesOn self.old.placing.builder self.new.placing.builder
-            (after_line line.start line.next)) }
         ensures leaf { IfOk result (λ _. (s : Source) (frames : List Frame) (inside : Forest Block)
             (b : Block) (lines : List SourceLine) (position : Position) (source : SourceLine)
             (now : Kind) → IsLeafIn s self.old.placing.builder frames inside b false
@@ -352,15 +308,6 @@ impl<'a> Pass<'a> {
             ≡ true →
             IsPlacedTo self.old.placing.builder self.new.placing.builder
             (after_line position.at line.next)) }
-        ensures opens { IfOk result (λ _. ends_html_at self.old.placing.builder.text position line
-            kind
-            ≡ false →
-            OpensHtml self.old.placing.builder self.new.placing.builder position.at line.next) }
-        ensures items { IfOk result (λ _. (source : SourceLine)
-            → IsRest self.old.placing.builder.text position line source
-            → ends_html_at self.old.placing.builder.text position line kind ≡ false
-            → OpensWith self.old.placing.builder self.new.placing.builder
-            (source_line body.Html source)) }
         ensures tree { IfOk result (λ _. (source : SourceLine)
             → IsRest self.old.placing.builder.text position line source
             → ends_html_at self.old.placing.builder.text position line kind ≡ true
@@ -406,17 +353,6 @@ impl<'a> Pass<'a> {
               at = after_line position.at line.next;
               texts = self.new.placing.builder.texts;
             }) }
-        ensures tree { IfOk result (λ _. (source : SourceLine)
-            → IsRest self.old.placing.builder.text position line source
-            → ends_html_at self.old.placing.builder.text position line kind ≡ true
-            → (between : BuilderView) × HasItems self.old.placing.builder between
-            (source_line body.Html source) × GoesOn self.old.placing.builder between
-            (after_line position.at line.next) × PutsBlock between self.new.placing.builder) }
-        ensures items { IfOk result (λ _. (source : SourceLine)
-            → IsRest self.old.placing.builder.text position line source
-            → ends_html_at self.old.placing.builder.text position line kind ≡ false
-            → HasItems self.old.placing.builder self.new.placing.builder
-            (source_line body.Html source)) }
         ensures goes_on { IfOk result (λ _.
             ends_html_at self.old.placing.builder.text position line kind ≡ false →
             GoesOn self.old.placing.builder self.new.placing.builder
@@ -482,13 +418,6 @@ impl<'a> Pass<'a> {
         requires { MayOpenLeaf self.old.placing.builder position.at line.next }
         ensures text { IfOk result (λ _. self.new.placing.builder.text
             ≡ self.old.placing.builder.text) }
-        ensures opens { IfOk result (λ _. self.new.placing.builder
-            ≡ record (opened self.old.placing.builder position.at body.IndentCodeBlock) {
-              at = after_line position.at line.next;
-              run = self.new.placing.builder.run;
-              levels = self.new.placing.builder.levels;
-              texts = self.new.placing.builder.texts;
-            }) }
         ensures items { IfOk result (λ _. (source : SourceLine)
             → IsRest self.old.placing.builder.text position line source
             → OpensWith self.old.placing.builder self.new.placing.builder
@@ -516,11 +445,6 @@ impl<'a> Pass<'a> {
             ≡ self.old.placing.builder.text) }
         ensures goes_on { IfOk result (λ _. GoesOn self.old.placing.builder self.new.placing.builder
             (after_line position.at line.next)) }
-        ensures items { IfOk result (λ _. (blank : List SourceLine) (source : SourceLine)
-            → AreHeld self.old.blanks.items blank
-            → IsRest self.old.placing.builder.text position line source
-            → HasItems self.old.placing.builder self.new.placing.builder
-            (source_lines (body.Text false) (blank ++ source ∷ []))) }
         ensures leaf { IfOk result (λ _. (s : Source) (frames : List Frame) (inside : Forest Block)
             (b : Block) (lines : List SourceLine) (blank : List SourceLine) (source : SourceLine)
             → IsLeafIn s self.old.placing.builder frames inside b false

@@ -6,8 +6,7 @@ ghost use Rattle.markdown_block_rules.specs.BlockGrowth.{Block, is_nil};
 ghost use Rattle.markdown_block_rules.specs.BlockRules as defined;
 ghost use Rattle.markdown_plain.specs.Frames as frame;
 ghost use Rattle.markdown_plain.specs.Frames.{AreNested, Frame, forgotten};
-ghost use Rattle.markdown_plain.specs.ListLooseness.{ItemRead, IsRead, blank_from, is_after_blank, is_empty};
-ghost use Rattle.markdown_plain.specs.ListLooseness.{is_item, is_loose, new_item, with_block};
+ghost use Rattle.markdown_plain.specs.ListLooseness.{blank_from, is_after_blank, is_item};
 ghost use Rattle.markdown_plain.specs.OpenBlocks.{innermost_is};
 ghost use Rattle.markdown_plain.specs.Settled.{AreOpen, BlanksKnown, IsLooseAs, IsLooseBefore};
 
@@ -50,8 +49,6 @@ impl Looseness {
     /// Records that a list was opened with its first item: it is tight, whether or not a blank line precedes it. Fails
     /// if an allocation fails.
     pub fn open_list(&mut self) -> Result<(), AllocError>
-        ensures read { IfOk result (λ _. (blank : Bool)
-            → IsRead self.old.lists.items [] (new_item blank) self.new) }
         ensures begins { IfOk result (λ _. (frames : List Frame) (inside : Forest Block)
             (list item : Block) → IsLooseBefore self.old frames inside
             → frame.is_list list.kind ≡ true → frame.is_item item.kind ≡ true
@@ -66,12 +63,7 @@ impl Looseness {
     }
 
     /// Records that an item is added to the innermost list, which is the innermost of the open blocks.
-    #[tactic(auto, using(crate::proofs::ListLoosenessLemmas::item_added))]
     pub fn add_item(&mut self, blocks: &[OpenBlock])
-        ensures read { (outer : List Bool) (items : List ItemRead) (last : ItemRead)
-            → IsRead outer items last self.old
-            → IsRead outer (items ++ last ∷ [])
-            (new_item (is_after_blank self.old.blank_from blocks.now)) self.new }
         ensures begins { (texts : List (List ℕ)) (frames : List Frame) (inside : Forest Block)
             (item : Block) → AreOpen texts blocks.now frames → AreNested frames
             → frame.innermost_is frame.is_list frames ≡ true → IsLooseAs self.old frames inside
@@ -87,13 +79,7 @@ impl Looseness {
 
     /// Records that a block is added to the innermost of the open blocks; it can make a list loose only where that is
     /// an item.
-    #[tactic(auto, using(crate::proofs::ListLoosenessLemmas::block_added))]
     pub fn add_block(&mut self, blocks: &[OpenBlock])
-        ensures inside { innermost_is is_item blocks.now ≡ true
-            → (outer : List Bool) (items : List ItemRead) (last : ItemRead)
-            → IsRead outer items last self.old
-            → IsRead outer items (with_block last (is_after_blank self.old.blank_from blocks.now))
-            self.new }
         ensures elsewhere { innermost_is is_item blocks.now ≡ false
             → self.new.lists ≡ self.old.lists }
         ensures begins { (texts : List (List ℕ)) (frames : List Frame) (inside : Forest Block)
@@ -113,12 +99,6 @@ impl Looseness {
     /// Records that the innermost list is closed, and returns whether it is loose. The list outside it continues, with
     /// this one in its last item.
     pub fn close_list(&mut self) -> bool
-        ensures decides { (outer : List Bool) (items : List ItemRead) (last : ItemRead)
-            → IsRead outer items last self.old
-            → (result ≡ is_loose (items ++ last ∷ [])) × (self.new.lists.items ≡ outer) }
-        ensures goes_on { (outer : List Bool) (items : List ItemRead) (last : ItemRead)
-            → self.new.lists.items ≡ outer ++ is_loose (items ++ last ∷ []) ∷ []
-            → is_empty last.blocks ≡ false → IsRead outer items last self.new }
         ensures closes { (outer : List Bool) (loose : Bool)
             → self.old.lists.items ≡ outer ++ loose ∷ []
             → (result ≡ loose) × (self.new.lists.items ≡ outer) }

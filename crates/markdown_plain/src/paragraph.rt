@@ -572,10 +572,6 @@ impl<'a> Pass<'a> {
             self.new.placing.builder.at) }
         ensures after { IfOk result (λ left. left ≡ false → 0 < length self.old.lines.items
             → self.new.placing.builder.at ≡ lines_end self.old.lines.items) }
-        ensures definitions { IfOk result (λ _. (sources : List SourceLine)
-            → IsParagraph self.old.placing.builder.text self.old.lines.items sources
-            → self.new.placing.builder.definitions ≡ self.old.placing.builder.definitions
-            ++ (divided_of self.old sources).definitions) }
         ensures tree { IfOk result (λ _. (sources : List SourceLine) (marked : ℕ) (b : Block)
             → IsParagraph self.old.placing.builder.text self.old.lines.items sources
             → self.old.task ≡ first_task (source_of self.old) marked sources

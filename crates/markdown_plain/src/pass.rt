@@ -236,10 +236,6 @@ impl<'a> Pass<'a> {
         requires { MayMakeRoom self.old depth }
         ensures text { IfOk result (λ _. self.new.placing.builder.text
             ≡ self.old.placing.builder.text) }
-        ensures kept { IfOk result (λ _. has_leaf self.old.placing.builder ≡ false
-            → self.old.lines.items ≡ [] → length self.old.placing.builder.blocks ≤ depth
-            → innermost_is is_list self.old.placing.builder.blocks ≡ false
-            → self.new.placing ≡ self.old.placing) }
         ensures closes { IfOk result (λ _. self.new.placing.builder.blocks
             ≡ room_in depth (without_leaf self.old.placing.builder)) }
         ensures outside { IfOk result (λ _. self.new.placing.builder.leaf ≡ false) }
@@ -303,9 +299,6 @@ impl<'a> Pass<'a> {
             ≡ self.old.placing.builder.text) }
         ensures ends { IfOk result (λ _. self.new.placing.builder.blocks
             ≡ without_leaf self.old.placing.builder) }
-        ensures tree { IfOk result (λ _. self.old.placing.builder.leaf ≡ true
-            → PutsBlock self.old.placing.builder self.new.placing.builder) }
-        ensures outside { IfOk result (λ _. self.new.placing.builder.leaf ≡ false) }
         ensures ended { IfOk result (λ _. self.new.lines.items ≡ []) }
         ensures dropped { IfOk result (λ _. self.old.placing.builder.leaf ≡ true
             → self.new.blanks.items ≡ []) }
@@ -352,10 +345,6 @@ pub fn innermost(placing: &Placing<'_>) -> Option<ItemBody>
 fn close_list(placing: &mut Placing<'_>, character: u8, first: u64, loose: bool)
     requires outside { placing.old.builder.leaf ≡ false }
     requires some { placing.old.builder.blocks ≡ [] → ⊥ }
-    ensures text { placing.new.builder.text ≡ placing.old.builder.text }
-    ensures settles { (settled : BuilderView) × HasBody placing.old.builder settled
-        (body.List (not loose) character first)
-        × (placing.new.builder ≡ closed settled placing.new.builder.levels) }
     ensures closes { placing.new.builder ≡ closed placing.old.builder placing.new.builder.levels }
     ensures tree { (settled : BuilderView)
         × (settled ≡ record placing.old.builder { blocks = settled.blocks })

@@ -29,17 +29,16 @@ pub struct Placing<'a> {
 }
 
 impl<'a> Placing<'a> {
-    ghost use Rattle.std.specs.Prelude.{◌≡◌, ◌≤◌, ◌<◌, ◌++◌, ◌∷◌, [], true, false, Some, None};
+    ghost use Rattle.std.specs.Prelude.{◌≡◌, ◌<◌, ◌++◌, ◌∷◌, [], true, false, Some, None};
     ghost use Rattle.std.specs.Prelude.{slice_get, IfOk, IfSome};
     ghost use Rattle.std.specs.Option.{option_map};
-    ghost use Rattle.std.specs.Str.{IsCharBoundary};
     ghost use Rattle.markdown_base.specs.declared.item.ItemBody.TheVariants as body;
     ghost use Rattle.markdown_base.specs.CowText.{text_of};
     ghost use Rattle.markdown_plain.specs.CodeLines.{owed_spaces};
     ghost use Rattle.markdown_plain.specs.OpenBlocks.{outer_of};
     ghost use Rattle.markdown_plain.specs.Stretches.{deep_starts};
     ghost use Rattle.markdown_builder.specs.Bodies.{is_leaf, is_plain_block, is_settled};
-    ghost use Rattle.markdown_builder.specs.BuilderView.{IsWhite, innermost_block, nothing_made, Opens, OpensNaming};
+    ghost use Rattle.markdown_builder.specs.BuilderView.{innermost_block, nothing_made, Opens, OpensNaming};
     ghost use Rattle.markdown_builder.specs.BuilderView.{OpensAttributed, OpensTable, AppendsItem, AppendsText};
     ghost use Rattle.markdown_builder.specs.BuilderView.{with_items};
     ghost use Rattle.markdown_base.specs.HeadingWords.{words_of};
@@ -202,15 +201,10 @@ impl<'a> Placing<'a> {
     /// Returns the byte offset at which the content of the innermost open block begins.
     fn content_of_block(&self) -> Option<usize>
         requires { HasContent self.now.builder }
-        ensures low { IfSome result (λ content. content ≤ self.now.builder.at) }
-        ensures white { IfSome result (λ content.
-            IfSome (innermost_block self.now.builder.blocks) (λ block.
-            IsWhite self.now.builder.text block.start content)) }
         ensures next { IfSome result (λ content.
             IfSome (innermost_block self.now.builder.blocks) (λ block.
             IsNextContent self.now.builder.text block.start (Some content))) }
         ensures open { IfSome result (λ _. self.now.builder.blocks ≡ [] → ⊥) }
-        ensures boundary { IfSome result (λ content. IsCharBoundary self.now.builder.text content) }
         ensures some { result ≡ None → ⊥ }
     {
         let start = self.builder.open_blocks().last()?.start;

@@ -1,6 +1,5 @@
 -- The line is the line of the definition without the fence's indentation.
 use Rattle.std.proofs.Common.{◌≡◌, ◌∙◌, ap, arith, sym, subst, rules, true, false}
-use Rattle.std.proofs.lemmas.Bool.{true≢false}
 use Rattle.std.proofs.lemmas.Result.{IfOk-weaker}
 use Rattle.markdown_lines.specs.SourceLines.{cut}
 use Rattle.markdown_plain.specs.HeldSources.{IsHeld}
@@ -22,23 +21,10 @@ use Rattle.markdown_plain.specs.Fits.{MayAddLine}
 use Rattle.markdown_plain.proofs.FittingLemmas.{line_at, space_ahead}
 use Rattle.markdown_plain.proofs.pass.Pass.add_fenced.Goals as goal
 
-pub returns-clause-items : goal.returns-clause-items
-returns-clause-items c =
-    IfOk-weaker c.add_code.result _ _ (λ done items source is goes_on.
-    items (cut c.args.fence.indent source) (subst (λ line. IsHeld line (cut c.args.fence.indent source))
-    (sym c.rest_of.ensures)
-    (cut_held c.args.self.now.placing.builder.text c.args.position c.read_space.result.after c.args.line source
-    c.args.fence.indent (search rules) is))) c.add_code.ensures.items
-
 -- the line does not close the block
 goes_on : (c : goal.After-add_code)
     → is_closed_at c.args.self.now.placing.builder.text c.args.position c.args.line c.args.fence ≡ false
 goes_on c = search rules
-
-pub returns-clause-tree : goal.returns-clause-tree
-returns-clause-tree c =
-    IfOk-weaker c.add_code.result _ _ (λ done text ends. absurd (true≢false (sym ends ∙ goes_on c)))
-    c.add_code.ensures.text
 
 pub returns-then-is_closing_fence-clause-leaf : goal.returns-then-is_closing_fence-clause-leaf
 returns-then-is_closing_fence-clause-leaf c = λ s frames inside b opening lines source kind is_open same fence is grown.

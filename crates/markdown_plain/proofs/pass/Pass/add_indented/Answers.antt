@@ -12,17 +12,6 @@ use Rattle.markdown_plain.proofs.LinedLeavesLemmas.{after_held, ok_three, rest_e
 use Rattle.markdown_plain.proofs.LeafTreesLemmas.{line_after, rest_held, texts_after}
 use Rattle.markdown_plain.proofs.pass.Pass.add_indented.Goals as goal
 
-pub returns-clause-items : goal.returns-clause-items
-returns-clause-items c =
-    IfOk-weaker c.add_code.result _ _ (λ done items blank source are is.
-    let line = subst (λ line. IsHeld line source) (sym c.rest_of.ensures)
-    (rest_held c.args.self.now.placing.builder.text c.args.position c.args.line source is) in
-    let second = items source line in
-    let first = c.in_ok-add_codes.ensures.items blank
-    (subst (λ lines. AreHeld lines blank) (sym c.deref.ensures.value) are) in
-    second ∙ (ap (λ ls. with_items ls (source_line (body.Text false) source)) first
-    ∙ line_after c.args.self.now.placing.builder.levels (body.Text false) blank source)) c.add_code.ensures.items
-
 pub returns-clause-leaf : goal.returns-clause-leaf
 returns-clause-leaf c =
     IfOk-weaker c.add_code.result _ _ (λ done all s frames inside b lines blank source is_open same code are is some.

@@ -1,6 +1,5 @@
 -- The block is opened, filled with its line, moved to its first content byte, and closed.
 use Rattle.std.proofs.Common.{◌≡◌, ◌++◌, ◌∷◌, [], ℕ, true, Some, None, refl, subst, rules}
-use Rattle.markdown_base.specs.Forest.{nil}
 use Rattle.markdown_base.specs.declared.item.ItemBody.TheVariants as body
 use Rattle.markdown_block_rules.specs.BlockRules.{shown_over}
 use Rattle.markdown_block_rules.specs.LineContents.{source_line}
@@ -9,7 +8,7 @@ use Rattle.markdown_builder.specs.declared.open_block.OpenBlock.{OpenBlock}
 use Rattle.markdown_builder.specs.Shown.{chain_of}
 use Rattle.markdown_lines.specs.Lines.{IsNextContent}
 use Rattle.markdown_plain.specs.CodeLines.{after_line, ends_html_at}
-use Rattle.markdown_plain.specs.Fitting.{BeginsAtContent, GoesOn, OpensHtml, stepped}
+use Rattle.markdown_plain.specs.Fitting.{BeginsAtContent, GoesOn, stepped}
 use Rattle.markdown_plain.specs.HeldSources.{IsRest}
 use Rattle.markdown_plain.specs.LeafTrees.{HasTrees}
 use Rattle.std.proofs.Common.{◌∙◌, ap, sym, arith}
@@ -105,37 +104,6 @@ returns-clause-text c = c.end_html.ensures.text ∙ begun_text c
 
 pub returns-clause-ends : goal.returns-clause-ends
 returns-clause-ends c = search (rules, outer_of_opened)
-
--- the line does not end the block
-pub returns-clause-opens : goal.returns-clause-opens
-returns-clause-opens c = λ e.
-    let old = c.args.self.now.placing.builder in
-    let filled = c.add_html_line.new.self.placing.builder in
-    let new = c.begin_at_content.new.self.builder in
-    let at = c.args.position.at in
-    let made = begun old c.step_to.new.self.builder c.open_block.new.self.builder filled new at
-    (after_line at c.args.line.next) c.step_to.ensures.steps c.in_ok-open_block.ensures.opens
-    c.in_ok-add_html_line.ensures.goes_on c.begin_at_content.ensures.begins c.begin_at_content.ensures.same in
-    let kept = c.end_html.ensures.goes_on
-    (ap (λ t. ends_html_at t c.args.position c.args.line c.args.kind) (begun_text c) ∙ e) in
-    subst (λ (p : Pass). OpensHtml old p.placing.builder at c.args.line.next) (sym kept) (record {
-      start = made.start;
-      content = subst (λ t. IsNextContent t at (Some made.start)) (filled_text c) made.content;
-      opens = made.same;
-    })
-
-pub returns-clause-items : goal.returns-clause-items
-returns-clause-items c = λ source is e.
-    let kept = c.end_html.ensures.goes_on
-    (ap (λ t. ends_html_at t c.args.position c.args.line c.args.kind) (begun_text c) ∙ e) in
-    let line = c.in_ok-add_html_line.ensures.items source (rw (opened_text c) is) in
-    let opens = c.in_ok-open_block.ensures.opens in
-    let first = c.step_to.ensures.steps in
-    ap (λ (p : Pass). p.placing.builder.levels) kept
-    ∙ (ap (λ (v : BuilderView). v.levels) c.begin_at_content.ensures.same
-    ∙ (line
-    ∙ (ap (λ (v : BuilderView). with_items v.levels (source_line body.Html source)) opens
-    ∙ ap (λ (v : BuilderView). with_items (v.levels ++ nil ∷ []) (source_line body.Html source)) first)))
 
 pub returns-clause-kind : goal.returns-clause-kind
 returns-clause-kind c =

@@ -43,7 +43,7 @@ pub returns-clause-continues : goal.returns-clause-continues
 returns-clause-continues c =
     IfOk-weaker c.open_list.result _ _ (λ done read s frames inside built goes_on.
     absurd (true≢false (sym goes_on ∙ (sym (list_goes_on c.args.marker s c.args.self.now.placing.builder frames inside
-    built) ∙ begins c)))) c.open_list.ensures.read
+    built) ∙ begins c)))) c.open_list.ensures.same
 
 -- a list is no block quote
 no_quote : (found : Option OpenBlock) → option_map_or (λ (block : OpenBlock). own.is_list block.body) found false ≡ true
@@ -120,7 +120,7 @@ returns-clause-around c =
     ∙ (ap (λ (v : BuilderView). v.blocks ++ record { start = v.at; body = list } ∷ []) c.step_to.ensures.steps
     ∙ (ap (λ (outer : List OpenBlock). outer ++ new_list c.args.at c.args.marker ∷ []) is.blocks
     ∙ sym (ap (λ (test : Bool). if test then blocks
-    else own.without_list blocks ++ new_list c.args.at c.args.marker ∷ []) (begins c))))) c.open_list.ensures.read
+    else own.without_list blocks ++ new_list c.args.at c.args.marker ∷ []) (begins c))))) c.open_list.ensures.same
 
 pub returns-clause-here : goal.returns-clause-here
 returns-clause-here c =
@@ -133,7 +133,7 @@ returns-clause-here c =
       some = some_opened c.open_block.new.self.builder.blocks c.step_to.new.self.builder.blocks _
           (ap (λ (v : BuilderView). v.blocks) opens);
       low = omega (arith, at, now);
-    }) c.open_list.ensures.read
+    }) c.open_list.ensures.same
 
 pub returns-clause-same : goal.returns-clause-same
 returns-clause-same c =
@@ -157,7 +157,7 @@ returns-clause-begins c =
     plain_is_built s c.args.self.now.placing.builder now frames inside b c.args.at (list_container c.args.marker)
     list (list_is c.args.marker)
     (subst (λ (p : Pass). Opens (stepped p.placing.builder c.args.at) now list) kept
-    (subst (λ (v : BuilderView). Opens v now list) first last)) start same fits built) c.open_list.ensures.read
+    (subst (λ (v : BuilderView). Opens v now list) first last)) start same fits built) c.open_list.ensures.same
 
 pub returns-then-character-marker-clause-changes : goal.returns-then-character-marker-clause-changes
 returns-then-character-marker-clause-changes c = λ s frames f inside b may list other start same.
@@ -194,7 +194,7 @@ returns-clause-changes c =
     plain_is_built s c.match-innermost.self.placing.builder now frames (forgotten f inside) b c.args.at
     (list_container c.args.marker) list (list_is c.args.marker)
     (subst (λ (v : BuilderView). Opens v now list) first last) start same
-    (list_outside frames f is may.stands.built.nested) closed.stands.built) c.open_list.ensures.read
+    (list_outside frames f is may.stands.built.nested) closed.stands.built) c.open_list.ensures.same
 
 pub returns-then-character-marker-clause-loose_begins : goal.returns-then-character-marker-clause-loose_begins
 returns-then-character-marker-clause-loose_begins c = λ s frames inside list b built none loose known lists items.
