@@ -39,15 +39,9 @@ changed_behind (x ∷ xs) ys (suc n) i change e =
 pub length-laid : (end : Option ℕ) (n : ℕ) (f : Forest Item) → length (laid end n f) ≡ size f
 length-laid end n nil = refl
 length-laid end n (node a below after) =
-    search (
-      arith,
-      length-append,
-      laid,
-      size,
-      length-laid None (n + 1) below,
-      length-laid end
-          (n + 1 + size below) after,
-    )
+    let inner = length-laid None (n + 1) below in
+    let outer = length-laid end (n + 1 + size below) after in
+    search (arith, length-append, laid, size, inner, outer)
 
 link-followed_by : (end : Option ℕ) (n k : ℕ) (f g : Forest Item) → k ≡ n + size f
     → link end n (followed_by f g) ≡ link (link end k g) n f

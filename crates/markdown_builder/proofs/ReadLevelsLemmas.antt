@@ -142,17 +142,8 @@ levels_rebuilt : (parent : ℕ) (frames : List Frame) (inside : Forest Item)
     → levels_in (numbers_in parent frames) (rebuilt frames inside) ≡ map (λ f. f.before) frames ++ inside ∷ []
 levels_rebuilt parent [] inside = refl
 levels_rebuilt parent (frame ∷ frames) inside =
-    search (
-      arith,
-      but_last-followed_by,
-      rebuilt,
-      in_last-followed_by,
-      number_in,
-      levels_rebuilt
-          (number_in parent frame) frames inside,
-      frame.before,
-      frame.item,
-    )
+    let deeper = levels_rebuilt (number_in parent frame) frames inside in
+    search (arith, but_last-followed_by, rebuilt, in_last-followed_by, number_in, deeper, frame.before, frame.item)
 
 -- the levels that are read off an arena are those that were laid out
 pub levels_laid : (frames : List Frame) (inside : Forest Item)

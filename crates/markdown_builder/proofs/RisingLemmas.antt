@@ -31,20 +31,9 @@ rising_spelled zero k None low r b h = refl
 rising_spelled zero k (Some j) low r b h = absurd (omega (arith, b.0, b.1, h))
 rising_spelled (suc n) k None low r b h = refl
 rising_spelled (suc n) k (Some j) low r b h =
-    search (
-      arith,
-      leads,
-      true,
-      false,
-      rising_spelled n k (k.child j) j r (leads k r true j) (omega (
-        arith,
-        b.0,
-        h,
-      )),
-      rising_spelled n k (k.next j) j r (leads k r false j) (omega (arith, b.0, h)),
-      k.child,
-      k.next,
-    )
+    let below = rising_spelled n k (k.child j) j r (leads k r true j) (omega (arith, b.0, h)) in
+    let after = rising_spelled n k (k.next j) j r (leads k r false j) (omega (arith, b.0, h)) in
+    search (arith, leads, true, false, below, after, k.child, k.next)
 
 -- a number is that of a forest's tree
 abbrev pub IsRoot : ℕ → Forest ℕ → Type 0
@@ -83,16 +72,9 @@ both_lists P (x ∷ xs) ys a b = (a.0, both_lists P xs ys a.1 b)
 all_in : (P : ℕ → Type 0) (f : Forest ℕ) → ((j : ℕ) → IsIn j f → P j) → AllByRecursion P (preorder f)
 all_in P nil h = tt
 all_in P (node i below after) h =
-    search (
-      arith,
-      inl,
-      both_lists,
-      preorder,
-      inr,
-      all_in P below (λ j s. h j (inr (inl s))),
-      all_in P after
-          (λ j s. h j (inr (inr s))),
-    )
+    let first = all_in P below (λ j s. h j (inr (inl s))) in
+    let second = all_in P after (λ j s. h j (inr (inr s))) in
+    search (arith, inl, both_lists, preorder, inr, first, second)
 
 -- two lists of distinct numbers that share none are distinct when joined
 distinct_both : (xs ys : List ℕ) → IsDistinct nat_eq xs → IsDistinct nat_eq ys

@@ -135,17 +135,8 @@ pub run_shown : (parts : Parts) (stop : ℕ) (opens closes : Bool) (count : ℕ)
     → shown_trees parts (run_trees stop opens closes count) ≡ chain_of (run_items stop opens closes count)
 run_shown parts stop opens closes zero le = refl
 run_shown parts stop opens closes (suc count) le =
-    search (
-      arith,
-      node,
-      plain_item,
-      nil,
-      shown_trees,
-      run_trees,
-      run_shown parts stop opens closes count (omega
-          (arith, le)),
-      body.MaybeEmphasis,
-    )
+    let fewer = run_shown parts stop opens closes count (omega (arith, le)) in
+    search (arith, node, plain_item, nil, shown_trees, run_trees, fewer, body.MaybeEmphasis)
 
 -- an item that refers to nothing
 pub settled_shown : (parts : Parts) (start end : ℕ) (b : ItemBody) → is_settled b ≡ true
