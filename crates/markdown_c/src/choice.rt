@@ -1,5 +1,5 @@
 //! What a call chooses of safe HTML.
-ghost use Rattle.std.specs.Prelude.{◌≡◌, ◌≤◌, ◌<◌, true, false, IfOk, IfErr, MatchResult, length, string_bytes};
+ghost use Rattle.std.specs.Prelude.{◌≡◌, ◌≤◌, ◌<◌, true, IfOk, IfErr, MatchResult, length, string_bytes};
 ghost use Rattle.std.specs.Str.{IsUtf8};
 ghost use Rattle.markdown_c.specs.CallsFromC.{are_choices, images_by_bits, rules_chosen};
 ghost use Rattle.markdown_c.specs.SafeChoice.{choice_view, IsNoChoice};

@@ -6,7 +6,7 @@ use Rattle.std.proofs.lemmas.List.{reverse-append}
 use Rattle.std.proofs.lemmas.List.Folds.{list_any-append}
 use Rattle.std.proofs.lemmas.Bool.{and_parts}
 use Rattle.markdown_base.specs.Event as event
-use Rattle.markdown_base.specs.Event.{EventView, TagView, HeadingView, start, end, tag_end}
+use Rattle.markdown_base.specs.Event.{EventView, TagView, start, end, tag_end}
 use Rattle.markdown_base.specs.declared.tag.HeadingLevel.{HeadingLevel}
 use Rattle.markdown_base.specs.declared.tag.HeadingLevel.TheVariants as level
 use Rattle.markdown_base.specs.declared.tag.TagEnd.{TagEnd}
@@ -15,14 +15,14 @@ use Rattle.markdown_out.specs.EventHtml.{html_by}
 use Rattle.markdown_out.specs.LookBacks.{OpenImageView, image_before, told_by, head_after}
 use Rattle.markdown_event_laws.specs.NestedEvents.{awaited_after, IsAwaited, NestFrom, AreNested}
 use Rattle.markdown_event_laws.specs.NestedEvents.{ends_table, ends_cells, ends_list, nearest_is, starts_table}
-use Rattle.markdown_event_laws.specs.NestedEvents.{keeps_tables_whole, keep_tables_whole, tables_are_whole}
+use Rattle.markdown_event_laws.specs.NestedEvents.{keeps_tables_whole, keep_tables_whole}
 use Rattle.markdown_event_laws.specs.NestedEvents.{each_passes, closes_heading, keeps_items_in_lists}
-use Rattle.markdown_event_laws.specs.NestedEvents.{keeps_headings_apart, items_are_in_lists, headings_are_apart}
+use Rattle.markdown_event_laws.specs.NestedEvents.{keeps_headings_apart}
 use Rattle.markdown_out.specs.declared.html.rules.HtmlRules.{HtmlRules}
 use Rattle.markdown_safe.specs.SafeEvents.{safe_event}
 use Rattle.markdown_safe.specs.SafeHtml.{is_listed}
-use Rattle.markdown_safe.specs.LinksApart.{closes_link, keeps_links_apart, links_are_apart}
-use Rattle.markdown_event_laws.specs.NestedEvents.{ends_rows_or_cells, keeps_table_parts_alone, table_parts_are_alone}
+use Rattle.markdown_safe.specs.LinksApart.{closes_link, keeps_links_apart}
+use Rattle.markdown_event_laws.specs.NestedEvents.{ends_rows_or_cells, keeps_table_parts_alone}
 use Rattle.markdown_safe.specs.PlacedTree.{heading_elements, is_directly_in, link_elements, may_stand, IsPlacedTree}
 use Rattle.markdown_safe.proofs.SafeHtmlLemmas.{Turn}
 use Rattle.markdown_safe.proofs.SafeTagsLemmas.{event_turns, level_name, cell_name}

@@ -1,6 +1,6 @@
 -- What an iterator returned whose items are made safe, and what is written of it.
 use Rattle.std.proofs.Common.{◌≡◌, ◌⊎◌, ℕ, List, [], ◌∷◌, ◌++◌, map, Ok, Err, Option, Some, Result, ap, inl, inr}
-use Rattle.std.proofs.Common.{refl, sym, ◌∙◌, append_assoc}
+use Rattle.std.proofs.Common.{refl, ◌∙◌, append_assoc}
 use Rattle.std.proofs.lemmas.List.{map-append}
 use Rattle.std.specs.Iterator.{Drains, Yields}
 use Rattle.markdown_base.specs.Event.{EventView, event_view}
@@ -11,7 +11,7 @@ use Rattle.markdown_out.specs.EventHtml.{html_by, open_html_by}
 use Rattle.markdown_out.specs.HtmlCorrect.{GoesTooDeepBy, IsCutAtEndBy, IsCutShortBy, IsOwnFaultBy, IsRenderedBy}
 use Rattle.markdown_out.specs.HtmlCorrect.{StopsAtErrorBy, items}
 use Rattle.markdown_out.specs.declared.html.rules.HtmlRules.{HtmlRules}
-use Rattle.markdown_safe.specs.SafeEvents.{SafePast, past_after, safe_from, safe_next}
+use Rattle.markdown_safe.specs.SafeEvents.{SafePast, safe_from, safe_next}
 use Rattle.markdown_safe.specs.SafeHtml.{IsSafeHtml, IsStartOfSafeHtml}
 use Rattle.markdown_safe.specs.SafeItems.{GivesSafe, IsSafeItem, SafeReading}
 use Rattle.markdown_safe.specs.SafeRules.{SafeRulesView}

@@ -1,7 +1,7 @@
 -- What is written of a parser whose events are made safe: the HTML of the safe events of the parser.
 use Rattle.std.proofs.Common.{◌≡◌, ◌⊎◌, ℕ, false, Bool, None, List, [], ◌∷◌, ◌++◌, map, Ok, Err, Option, Some}
 use Rattle.std.proofs.Common.{ap, inl, inr, refl, subst, sym, ◌∙◌, is_some}
-use Rattle.std.specs.Iterator.{Drains, Yields}
+use Rattle.std.specs.Iterator.{Yields}
 use Rattle.markdown_base.specs.Event.{EventView, event_view}
 use Rattle.markdown_base.specs.Source.{Source}
 use Rattle.markdown_base.specs.Questions.{Question, Answer, Answers}
@@ -27,7 +27,7 @@ use Rattle.markdown_render.proofs.RenderingLemmas.{first_drained, memory_alone, 
 use Rattle.markdown_safe.specs.PlacedTree.{IsPlacedTree}
 use Rattle.markdown_safe.specs.SafeEvents.{safe_html_of}
 use Rattle.markdown_safe.specs.SafeHtml.{IsSafeHtml}
-use Rattle.markdown_safe.specs.SafeItems.{GivesSafe, IsSafeItem, SafeReading}
+use Rattle.markdown_safe.specs.SafeItems.{IsSafeItem, SafeReading}
 use Rattle.markdown_safe.specs.SafeRendering.{IsSafeHtmlFor, IsSafeTextTooDeep, IsSafeTooDeepFor, safe_html_of_text}
 use Rattle.markdown_safe.specs.SafeRules.{SafeRulesView, html_rules}
 use Rattle.markdown_safe.specs.SafeSource.{new_reading, safe_reading, safe_steps}

@@ -39,7 +39,7 @@ use Rattle.markdown_safe.specs.SafeEvents.{safe_link_destination, without_scheme
 use Rattle.markdown_safe.specs.SafeEvents.{safe_block_html, safe_event, safe_inline_html, safe_tag}
 use Rattle.markdown_safe.proofs.RawEventsLemmas.{block_html_cases, inline_html_cases}
 use Rattle.markdown_safe.proofs.SafeHtmlLemmas.{of_pieces, both, text_safe, attribute_safe, IsValue, value-append}
-use Rattle.markdown_safe.proofs.SafeHtmlLemmas.{value-empty, value-escaped, value-plain, digits_plain, decimal_digits}
+use Rattle.markdown_safe.proofs.SafeHtmlLemmas.{value-escaped, value-plain, digits_plain, decimal_digits}
 use Rattle.markdown_safe.proofs.SafeHtmlLemmas.{plain_safe, destination-escaped, destination-safe, Turn, opens, closes}
 use Rattle.markdown_safe.proofs.SafeHtmlLemmas.{turns_of, IsMarkup}
 

@@ -1,5 +1,5 @@
 -- What the iterators that make events safe read, and their calls.
-use Rattle.std.specs.Prelude.{◌≡◌, Option, Result}
+use Rattle.std.specs.Prelude.{Option, Result}
 use Rattle.markdown_base.specs.declared.event.Event.{Event}
 use Rattle.markdown_base.specs.declared.fault.Fault.{Fault}
 use Rattle.markdown_safe.specs.SafeEvents.{SafePast, no_past}

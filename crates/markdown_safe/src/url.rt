@@ -1,7 +1,7 @@
 //! The schemes of URLs.
 ghost use Rattle.std.specs.Prelude.{◌≡◌, Some, None, IfOk, MatchOption};
 ghost use Rattle.markdown_out.specs.TagHtml.{may_be_in_scheme};
-ghost use Rattle.markdown_safe.specs.SafeUrl.{before_colon, image_schemes, is_dropped_byte, is_safe_url, is_scheme};
+ghost use Rattle.markdown_safe.specs.SafeUrl.{before_colon, image_schemes, is_safe_url, is_scheme};
 ghost use Rattle.markdown_safe.specs.SafeUrl.{is_scheme_of, link_schemes};
 
 use std::alloc::{AllocError, Global};

@@ -2,7 +2,6 @@
 ghost use Rattle.std.specs.Prelude.{◌≡◌, IfOk, IfErr, false, codes, map, string_bytes};
 ghost use Rattle.clap.specs.Words.{app_of, new_app, rule_of};
 ghost use Rattle.clap.specs.declared.builder.value_parser.ValueParser.TheVariants.{Names};
-ghost use Rattle.markdown_tool_command.specs.Choices.{format_names};
 ghost use Rattle.markdown_tool_command.specs.CommandLine.{IsRefusedBy, IsRequestBy, IsRefusedFor, IsRequestFor};
 ghost use Rattle.markdown_tool_command.specs.CommandLine.{flag, tool, valued, versioned};
 ghost use Rattle.markdown_tool_command.specs.CommandLine.{extension_rule, file_rule, output_rule, to_rule};

@@ -1,5 +1,5 @@
 -- What is written of bytes that are text, as the bits ask.
-use Rattle.std.proofs.Common.{◌≡◌, ap, ◌∙◌}
+use Rattle.std.proofs.Common.{ap, ◌∙◌}
 use Rattle.std.proofs.lemmas.Result.{err_from_is_err_and}
 use Rattle.markdown_additions.specs.Additions.{added_events}
 use Rattle.markdown_additions.specs.Written.{as_safe_html, bare_events, written_of_text}
