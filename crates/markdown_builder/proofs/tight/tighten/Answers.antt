@@ -4,11 +4,10 @@ use Rattle.markdown_base.specs.declared.item.Item.{Item}
 use Rattle.markdown_base.specs.Arena.{Arena}
 use Rattle.markdown_base.specs.BlockTree.{item_at, no_item}
 use Rattle.markdown_builder.specs.Standing.{with_item}
-use Rattle.markdown_builder.specs.TreeSteps.{Tightens, none_tight, one_tight, MakesTight}
-use Rattle.markdown_builder.specs.TreeSteps.{is_paragraph, tight}
+use Rattle.markdown_builder.specs.TreeSteps.{Tightens, none_tight, one_tight, MakesTight, is_paragraph, tight}
 use Rattle.markdown_builder.proofs.NodeWriteLemmas.{item_writes}
-use Rattle.markdown_builder.proofs.TightLaidLemmas.{same_item_written, other_stays}
-use Rattle.markdown_builder.proofs.TightLemmas.{one_made, none_made}
+use Rattle.markdown_builder.proofs.ClosedLevelLemmas.{same_item_written, other_stays}
+use Rattle.markdown_builder.proofs.ClosedListLemmas.{one_made, none_made}
 use Rattle.markdown_builder.proofs.tight.tighten.Goals as goal
 
 pub returns-then-is_paragraph-clause-steps : goal.returns-then-is_paragraph-clause-steps
@@ -17,8 +16,7 @@ returns-then-is_paragraph-clause-steps c = λ from after.
     let passes = ap (λ (x : Item). is_paragraph x.body) (sym item)
     ∙ (sym c.is_paragraph.ensures ∙ c.if-is_paragraph.true) in
     let made : c.set_item.new.self ≡ with_item c.args.tree.now c.args.number
-    (tight (item_at c.args.tree.now.nodes c.args.number)) =
-    c.set_item.ensures ∙ rw (← item) refl in
+    (tight (item_at c.args.tree.now.nodes c.args.number)) = c.set_item.ensures ∙ rw (← item) refl in
     subst (λ (t : Arena Item). Tightens from c.args.tree.now t) (sym made)
     (one_tight c.args.tree.now c.args.number none_tight after c.requires passes)
 
@@ -31,8 +29,7 @@ returns-then-is_paragraph-clause-makes c =
     let passes = ap (λ (x : Item). is_paragraph x.body) (sym item)
     ∙ (sym c.is_paragraph.ensures ∙ c.if-is_paragraph.true) in
     let made : c.set_item.new.self ≡ with_item c.args.tree.now c.args.number
-    (tight (item_at c.args.tree.now.nodes c.args.number)) =
-    c.set_item.ensures ∙ rw (← item) refl in
+    (tight (item_at c.args.tree.now.nodes c.args.number)) = c.set_item.ensures ∙ rw (← item) refl in
     subst (λ (t : Arena Item). MakesTight (λ p. p ≡ c.args.number) c.args.tree.now.nodes t.nodes) (sym made)
     (one_made c.args.tree.now.nodes _ c.args.number
     (item_writes c.args.tree.now.nodes c.args.number (tight (item_at c.args.tree.now.nodes c.args.number)) c.requires)
@@ -45,8 +42,7 @@ returns-else-is_paragraph-clause-makes c =
     ∙ (sym c.is_paragraph.ensures ∙ c.if-is_paragraph.false))
 
 pub returns-else-is_paragraph-clause-written : goal.returns-else-is_paragraph-clause-written
-returns-else-is_paragraph-clause-written c =
-    let tree = c.args.tree.now in
+returns-else-is_paragraph-clause-written c = let tree = c.args.tree.now in
     let item : c.item-item.result.now ≡ item_at tree.nodes c.args.number = c.item-item.ensures no_item in
     let other : is_paragraph (item_at tree.nodes c.args.number).body ≡ false =
     ap (λ (x : Item). is_paragraph x.body) (sym item) ∙ (sym c.is_paragraph.ensures ∙ c.if-is_paragraph.false) in

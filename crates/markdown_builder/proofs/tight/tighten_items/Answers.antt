@@ -4,9 +4,9 @@ use Rattle.std.specs.Prelude.{IfSome}
 use Rattle.markdown_base.specs.Arena.{child_of}
 use Rattle.markdown_builder.specs.TreeSteps.{none_tight}
 use Rattle.markdown_builder.specs.TreeLevels.{items_tightened}
-use Rattle.markdown_builder.proofs.TightLaidLemmas.{all_left_laid, none_left_laid, item_laid}
-use Rattle.markdown_builder.proofs.TightLemmas.{item_step, items_done, rising_still, items_left}
-use Rattle.markdown_builder.proofs.TightLemmas.{tightens_on, next_after}
+use Rattle.markdown_builder.proofs.ClosedLevelLemmas.{all_left_laid, none_left_laid, item_laid}
+use Rattle.markdown_builder.proofs.ClosedListLemmas.{item_step, items_done, rising_still, items_left, tightens_on}
+use Rattle.markdown_builder.proofs.ClosedListLemmas.{next_after}
 use Rattle.markdown_builder.proofs.tight.tighten_items.Goals as goal
 
 pub items-init : goal.items-init
@@ -29,14 +29,12 @@ tighten_siblings-requires c = record {
 pub items-smaller : goal.items-smaller
 items-smaller c =
     (item_step c.args.tree.now.nodes c.items.tree.nodes c.tighten_siblings.new.tree.nodes c.args.list c.items.link
-    c.next-link.result
-    c.child-first.result c.in-Some.item
+    c.next-link.result c.child-first.result c.in-Some.item
     c.requires.rising c.items.invariant.left c.in-Some.is c.child-first.ensures.value c.tighten_siblings.ensures.makes
     c.next-link.ensures.value).1
 
 pub items-preserved : goal.items-preserved
-items-preserved c =
-    let i = c.items.invariant in
+items-preserved c = let i = c.items.invariant in
     let r = rising_still _ _ c.args.tree.now.nodes c.items.tree.nodes i.left.makes c.requires.rising in
     let here : c.args.list ≤ c.in-Some.item =
     subst (λ (o : Option ℕ). IfSome o (λ number. c.args.list ≤ number)) c.in-Some.is i.after in
@@ -46,9 +44,7 @@ items-preserved c =
       after = rw (c.next-link.ensures.value, c.tighten_siblings.ensures.makes.links false c.in-Some.item)
           (next_after c.items.tree.nodes r false c.in-Some.item c.args.list here);
       left = (item_step c.args.tree.now.nodes c.items.tree.nodes c.tighten_siblings.new.tree.nodes c.args.list
-          c.items.link
-          c.next-link.result
-          c.child-first.result c.in-Some.item
+          c.items.link c.next-link.result c.child-first.result c.in-Some.item
           c.requires.rising i.left c.in-Some.is c.child-first.ensures.value c.tighten_siblings.ensures.makes
           c.next-link.ensures.value).0;
       laid = item_laid c.args.tree.now.nodes (child_of c.args.tree.now.nodes c.args.list) c.items.tree.nodes

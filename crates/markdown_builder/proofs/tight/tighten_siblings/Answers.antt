@@ -6,9 +6,9 @@ use Rattle.markdown_base.specs.Arena.{Arena}
 use Rattle.markdown_builder.specs.Tightness.{IsInChain}
 use Rattle.markdown_builder.specs.TreeSteps.{none_tight}
 use Rattle.markdown_builder.specs.TreeLevels.{roots_tightened}
-use Rattle.markdown_builder.proofs.TightLaidLemmas.{all_left_laid, none_left_laid, sibling_laid}
-use Rattle.markdown_builder.proofs.TightLemmas.{all_left, leads_to, sibling_step, siblings_done}
-use Rattle.markdown_builder.proofs.TightLemmas.{rising_still, tightens_on, next_after}
+use Rattle.markdown_builder.proofs.ClosedLevelLemmas.{all_left_laid, none_left_laid, sibling_laid}
+use Rattle.markdown_builder.proofs.ClosedListLemmas.{all_left, leads_to, sibling_step, siblings_done, rising_still}
+use Rattle.markdown_builder.proofs.ClosedListLemmas.{tightens_on, next_after}
 use Rattle.markdown_builder.proofs.tight.tighten_siblings.Goals as goal
 
 pub siblings-init : goal.siblings-init
@@ -23,14 +23,12 @@ siblings-init c = record {
 }
 
 pub tighten-requires : goal.tighten-requires
-tighten-requires c =
-    let l = c.siblings.invariant.left in
+tighten-requires c = let l = c.siblings.invariant.left in
     leads_to c.args.tree.now.nodes c.siblings.tree.nodes c.siblings.link c.in-Some.number l.makes.size l.within
     c.in-Some.is
 
 pub next-link-requires : goal.next-link-requires
-next-link-requires c =
-    let l = c.siblings.invariant.left in
+next-link-requires c = let l = c.siblings.invariant.left in
     let low = leads_to c.args.tree.now.nodes c.siblings.tree.nodes c.siblings.link c.in-Some.number l.makes.size
     l.within c.in-Some.is in
     rw c.tighten.ensures.makes.size low
@@ -38,14 +36,12 @@ next-link-requires c =
 pub siblings-smaller : goal.siblings-smaller
 siblings-smaller c =
     (sibling_step c.args.tree.now.nodes c.siblings.tree.nodes c.tighten.new.tree.nodes c.args.first c.siblings.link
-    c.next-link.result
-    c.in-Some.number
+    c.next-link.result c.in-Some.number
     c.requires.rising c.siblings.invariant.left c.in-Some.is c.tighten.ensures.makes c.next-link.ensures.value).1
 
 pub siblings-preserved : goal.siblings-preserved
 siblings-preserved c = record {
-  steps = λ from h.
-      let before = c.siblings.invariant.steps from h in
+  steps = λ from h. let before = c.siblings.invariant.steps from h in
       let l = c.siblings.invariant.left in
       let r = rising_still _ _ c.args.tree.now.nodes c.siblings.tree.nodes l.makes c.requires.rising in
       let here : from ≤ c.in-Some.number =
@@ -55,8 +51,7 @@ siblings-preserved c = record {
             (next_after c.siblings.tree.nodes r false c.in-Some.number from here),
       );
   left = (sibling_step c.args.tree.now.nodes c.siblings.tree.nodes c.tighten.new.tree.nodes c.args.first c.siblings.link
-      c.next-link.result
-      c.in-Some.number
+      c.next-link.result c.in-Some.number
       c.requires.rising c.siblings.invariant.left c.in-Some.is c.tighten.ensures.makes c.next-link.ensures.value).0;
   laid = sibling_laid c.args.tree.now.nodes c.args.first c.siblings.tree.nodes c.tighten.new.tree.nodes
       c.siblings.link c.next-link.result c.in-Some.number c.siblings.invariant.laid c.in-Some.is
@@ -67,8 +62,7 @@ pub returns : goal.returns
 returns c = record {
   steps = λ from h. (c.siblings.invariant.steps from h).0;
   makes = siblings_done c.args.tree.now.nodes c.siblings.tree.nodes c.args.first c.siblings.link
-      c.siblings.invariant.left
-      c.in_default.not-Some;
+      c.siblings.invariant.left c.in_default.not-Some;
   laid = none_left_laid roots_tightened refl c.args.tree.now.nodes c.args.first c.siblings.tree.nodes c.siblings.link
       c.in_default.not-Some c.siblings.invariant.laid;
 }

@@ -3,8 +3,8 @@ use Rattle.std.proofs.Common.{ℕ, ◌≤◌, length}
 use Rattle.std.specs.Prelude.{IfSome}
 use Rattle.markdown_builder.specs.TreeSteps.{Tightens}
 use Rattle.markdown_builder.specs.TreeLevels.{roots_tightened}
-use Rattle.markdown_builder.proofs.TightLaidLemmas.{LaidLeft}
-use Rattle.markdown_builder.proofs.TightLemmas.{SiblingsLeft, nodes_from}
+use Rattle.markdown_builder.proofs.ClosedLevelLemmas.{LaidLeft}
+use Rattle.markdown_builder.proofs.ClosedListLemmas.{SiblingsLeft, nodes_from}
 use Rattle.markdown_builder.proofs.tight.tighten_siblings.Given as goal
 
 abbrev pub invariant-siblings : goal.invariant-siblings

@@ -4,8 +4,7 @@ use Rattle.markdown_builder.proofs.NodeWriteLemmas.{appended_number, appended_th
 use Rattle.markdown_builder.proofs.tree_steps.go_into.Goals as goal
 
 pub set_item-requires : goal.set_item-requires
-set_item-requires c =
-    rw (c.in-Err.ensures.refused, c.in_ok-number.ensures.made, c.in_ok-number.ensures.number)
+set_item-requires c = rw (c.in-Err.ensures.refused, c.in_ok-number.ensures.made, c.in_ok-number.ensures.number)
     (appended_number c.args.tree.now c.args.item)
 
 pub returns-in-Err-clause-refused : goal.returns-in-Err-clause-refused

@@ -4,8 +4,8 @@ use Rattle.std.proofs.lemmas.List.{length-append}
 use Rattle.markdown_builder.specs.declared.open_block.OpenBlock.{OpenBlock}
 use Rattle.markdown_builder.proofs.tree_steps.replace_last.Goals as goal
 
-last_set : (outer : List OpenBlock) (last block : OpenBlock) (i : ℕ) → suc i ≡ length (outer ++ last ∷ [])
-    → set (outer ++ last ∷ []) i block ≡ outer ++ block ∷ []
+last_set : (outer : List OpenBlock) (last block : OpenBlock) (i : ℕ)
+    → suc i ≡ length (outer ++ last ∷ []) → set (outer ++ last ∷ []) i block ≡ outer ++ block ∷ []
 last_set [] last block zero n = refl
 last_set [] last block (suc i) n = absurd (omega (arith, n))
 last_set (first ∷ outer) last block zero n = let l = length-append outer (last ∷ []) in absurd (omega (arith, n, l))
