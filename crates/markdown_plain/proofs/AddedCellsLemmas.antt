@@ -2,7 +2,7 @@
 -- takes no rows.
 use Rattle.std.proofs.Common.{◌≡◌, ℕ, ◌+◌, ◌≤◌, Bool, true, false, ◌||◌, List, [], ◌∷◌, ◌++◌, Option, Some, None}
 use Rattle.std.proofs.Common.{IfSome, length, map, nat_le, ◌==◌, refl, sym, ap, ◌∙◌, subst, arith}
-use Rattle.std.proofs.lemmas.Bool.{true≢false}
+use Rattle.std.proofs.lemmas.Bool.{or_parts, true≢false}
 use Rattle.std.proofs.lemmas.Bool.Decides.{nat_tests}
 use Rattle.std.proofs.lemmas.Option.{none-some, same_Some}
 use Rattle.std.specs.Prelude.{if◌then◌else◌, not}
@@ -17,21 +17,21 @@ use Rattle.markdown_lines.specs.SourceLines.{SourceLine, is_blank_rest}
 use Rattle.markdown_scan.specs.LineStart.{LineLeft}
 use Rattle.markdown_builder.specs.TreeLevels.{followed_by}
 use Rattle.markdown_block_rules.specs.BlockGrowth as was
-use Rattle.markdown_block_rules.specs.BlockGrowth.{Block, Kind, added_in, added_in_block, another_item, begun_by}
-use Rattle.markdown_block_rules.specs.BlockGrowth.{begun_in, goes_on, inside_of, is_nil, line_block, new_blocks}
-use Rattle.markdown_block_rules.specs.BlockGrowth.{next_item, with_line, with_next_line}
+use Rattle.markdown_block_rules.specs.BlockGrowth.{Block, Kind, added_in, another_item, begun_by, begun_in, goes_on}
+use Rattle.markdown_block_rules.specs.BlockGrowth.{inside_of, is_nil, line_block, new_blocks, next_item, with_line}
+use Rattle.markdown_block_rules.specs.BlockGrowth.{with_next_line}
 use Rattle.markdown_block_rules.specs.TableLines.{most_added, reads_tables}
 use Rattle.markdown_block_rules.proofs.AddedCellsLemmas.{TakeNoRow, TakesNoRow, begun_none, grown_same}
 use Rattle.markdown_block_rules.proofs.GrowthLemmas.{Fresh, Grown, Held, KindGrows, all_begun, block_outermost}
 use Rattle.markdown_block_rules.proofs.GrowthLemmas.{inside_grown, later_grown, leaf_grown, line_grows, next_fresh}
-use Rattle.markdown_block_rules.proofs.GrowthLemmas.{table_made, table_made_behind}
-use Rattle.markdown_block_rules.proofs.GrowthLemmas.{fenced_more, html_more, indented_more, metadata_closed}
-use Rattle.markdown_block_rules.proofs.GrowthLemmas.{metadata_more, row_more, text_more, underlined}
+use Rattle.markdown_block_rules.proofs.GrowthLemmas.{table_made, table_made_behind, fenced_more, html_more}
+use Rattle.markdown_block_rules.proofs.GrowthLemmas.{indented_more, metadata_closed, metadata_more, row_more, text_more}
+use Rattle.markdown_block_rules.proofs.GrowthLemmas.{underlined}
 use Rattle.markdown_plain.specs.declared.pass.Pass.{Pass}
 use Rattle.markdown_plain.specs.declared.table_state.Tables.{Tables}
 use Rattle.markdown_plain.specs.Closing.{MayEnd}
-use Rattle.markdown_plain.specs.Frames.{AreContainers, AreNested, Frame, IsContainer, Reached, forgotten}
-use Rattle.markdown_plain.specs.Frames.{innermost_is, is_list, reached, rebuilt, touched}
+use Rattle.markdown_plain.specs.Frames.{AreContainers, AreNested, Frame, IsContainer, Reached, forgotten, innermost_is}
+use Rattle.markdown_plain.specs.Frames.{is_list, reached, rebuilt, touched}
 use Rattle.markdown_plain.specs.OpenLeaves.{is_table, leaf_block}
 use Rattle.markdown_plain.specs.ReachedLines.{Before, blocks_before}
 use Rattle.markdown_plain.specs.Standing.{HasLast, Stands, with_last}
@@ -105,10 +105,6 @@ begun_unended s next top (node b below nil) fresh =
 begun_unended s next top (node b below (node c others after)) fresh =
     begun_unended s next top (node c others after) fresh.2
 
-pub or_none : (a b : Bool) → (a || b) ≡ false → (a ≡ false) × (b ≡ false)
-or_none true b none = absurd (true≢false none)
-or_none false b none = (refl, none)
-
 -- a line makes none
 kind_unended : (s : Source) (l : SourceLine) (top : Bool) (kind grown : Kind) → KindGrows l top kind grown
     → is_ended_table s kind ≡ false → is_ended_table s grown ≡ false
@@ -146,11 +142,11 @@ grown_unended s l _ _ _ (later_grown top b below (node c others after) nil more)
 grown_unended s l _ _ _ (later_grown top b below (node c others after) (node d inner rest) more) none =
     grown_unended s l top (node c others after) (node d inner rest) more none
 grown_unended s l _ _ _ (inside_grown top b c below grown same more) none =
-    let parts = or_none (is_ended_table s b.kind) (ends_ended s below) none in
+    let parts = or_parts (is_ended_table s b.kind) (ends_ended s below) none in
     ap (λ t. t || ends_ended s grown) (ap (is_ended_table s) same ∙ parts.0)
     ∙ grown_unended s l false below grown more parts.1
 grown_unended s l _ _ _ (leaf_grown top b c below kind is more) none =
-    let parts = or_none (is_ended_table s b.kind) (ends_ended s below) none in
+    let parts = or_parts (is_ended_table s b.kind) (ends_ended s below) none in
     ap (λ t. t || ends_ended s below)
     (kind_unended s l top kind c.kind more (ap (is_ended_table s) (sym is) ∙ parts.0)) ∙ parts.1
 grown_unended s l _ _ _ (table_made top b c below head row alignments reads is fits made) none =
@@ -390,10 +386,9 @@ line_same s pass frames inside None source has none =
     (blocks_begin s frames inside source opened.containers opened.nested
     (nothing_goes_on s frames inside source opened.containers has.2))
 line_same s pass frames inside (Some b) source has none =
-    let opened = frames_of s pass frames inside (Some b) has in
     let blocks = rebuilt frames (followed_by inside (leaf_block b)) in
     grown_same s source true blocks (with_line s blocks source) (line_grows s blocks source)
-    (takes_inside frames (followed_by inside (leaf_block b)) opened.containers
+    (takes_inside frames (followed_by inside (leaf_block b)) (frames_of s pass frames inside (Some b) has).containers
     (takes_followed inside b nil (alone_takes b.kind none) tt))
 
 -- a line that adds no more cells than may be added
@@ -425,11 +420,10 @@ pub counted_on : (s : Source) (old new : Pass) (before : Before) (source : Sourc
     → IsCounted s old (blocks_before before)
     → IsCounted s new (with_next_line s (blocks_before before) source)
 counted_on s old new before source from stands none same counted =
-    let blocks = blocks_before before in
     let next = next_as_line s old before source from stands counted none in
     subst (IsCounted s new) (sym next.0) (record {
       added = ap (λ (t : Tables). t.added) same ∙ (counted.added ∙ sym next.1);
       most = ap (λ (t : Tables). t.most) same ∙ counted.most;
       few = omega (arith, next.1, counted.few);
-      unended = line_unended s blocks source counted.unended;
+      unended = line_unended s (blocks_before before) source counted.unended;
     })

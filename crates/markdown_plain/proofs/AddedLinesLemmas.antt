@@ -24,23 +24,12 @@ use Rattle.markdown_plain.specs.HeldSources.{AreInOrder, AreTextLines, IsParagra
 use Rattle.markdown_plain.specs.ListLooseness as own
 use Rattle.markdown_plain.specs.OpenLeaves.{AreItemsOpenedIn, BeginsText, ComesAfter, HoldsParagraph, IsOpenedIn}
 use Rattle.markdown_plain.specs.OpenedFrames.{around_innermost}
-use Rattle.markdown_plain.specs.Paragraphs.{EndsFrom, first_task, has_paragraph, is_item_in, lines_end, task_at}
+use Rattle.markdown_plain.specs.Paragraphs.{EndsFrom, first_task, has_paragraph, is_item_in, lines_end, task_at, past}
+use Rattle.markdown_plain.proofs.ParagraphsLemmas.{past_is_end}
 use Rattle.markdown_plain.specs.Settled.{AreOpen, IsBodyOf, IsBuilt, around_in}
-use Rattle.markdown_plain.proofs.ParagraphTreesLemmas.{as_many}
+use Rattle.markdown_plain.proofs.DividedLemmas.{as_many}
 
 -- ---- a line more
-
--- where the last of some lines ends, or the number before them
-abbrev pub past : ℕ → List HeldLine → ℕ
-past from [] = from
-past from (line ∷ lines) = past line.next lines
-
-pub past_is_end : (line : HeldLine) (lines : List HeldLine) → lines_end (line ∷ lines) ≡ past line.next lines
-past_is_end line [] = refl
-past_is_end line (m ∷ lines) = end_inside line m lines ∙ past_is_end m lines
-  where
-    end_inside : (line m : HeldLine) (lines : List HeldLine) → lines_end (line ∷ m ∷ lines) ≡ lines_end (m ∷ lines)
-    end_inside line m lines = simp unary_clauses refl
 
 past_last : (from : ℕ) (lines : List HeldLine) (line : HeldLine) → past from (lines ++ line ∷ []) ≡ line.next
 past_last from [] line = refl
@@ -92,25 +81,21 @@ ends_from_first marked [] more some from = absurd (omega (arith, some))
 ends_from_first marked (l ∷ sources) more some from = from
 
 pub line_added : (s : Source) (old new : Pass) (frames : List Frame) (inside : Forest Block) (b : Block)
-    (sources : List SourceLine) (line : HeldLine) (source : SourceLine)
-    → new ≡ record old { lines = new.lines } → new.lines.items ≡ old.lines.items ++ line ∷ []
-    → HoldsParagraph s old frames inside b sources
-    → ComesAfter old.placing.builder.text old.lines.items line source
-    → HoldsParagraph s new frames inside
+    (sources : List SourceLine) (line : HeldLine) (source : SourceLine) → new ≡ record old { lines = new.lines }
+    → new.lines.items ≡ old.lines.items ++ line ∷ [] → HoldsParagraph s old frames inside b sources
+    → ComesAfter old.placing.builder.text old.lines.items line source → HoldsParagraph s new frames inside
     (record b { last = source.next; kind = was.paragraph_leaf (sources ++ source ∷ []) }) (sources ++ source ∷ [])
 line_added s old new frames inside b sources line source same lines holds comes =
     let marked = (around_innermost in_no_item frames).marked in
     let text = old.placing.builder.text in
-    let many = as_many text old.lines.items sources holds.lines.are in
-    let some : 0 < length sources = omega (arith, many, holds.some) in
+    let some : 0 < length sources = omega (arith, as_many text old.lines.items sources holds.lines.are, holds.some) in
     let built : new.placing ≡ old.placing = ap (λ (p : Pass). p.placing) same in
     record {
-      built = subst (λ p. IsBuilt s p.builder frames inside) (sym built) holds.built;
-      some = subst (λ (ls : List HeldLine). 0 < length ls) (sym lines) (some_more old.lines.items);
+      built = rw built holds.built;
+      some = rw lines (some_more old.lines.items);
       kind = refl;
-      lines = subst (λ p. IsParagraph p.builder.text new.lines.items (sources ++ source ∷ [])) (sym built)
-          (subst (λ (ls : List HeldLine). IsParagraph text ls (sources ++ source ∷ [])) (sym lines)
-          (paragraph_after text old.lines.items sources line source holds.some holds.lines comes));
+      lines = rw (built, lines)
+          (paragraph_after text old.lines.items sources line source holds.some holds.lines comes);
       task = ap (λ (p : Pass). p.task) same ∙ (holds.task ∙ sym (same_first_task s marked sources (source ∷ []) some));
       from = ends_from_first marked sources (source ∷ []) some holds.from;
       last = sym comes.is.next ∙ sym (ap lines_end lines ∙ end_after old.lines.items line);
@@ -179,9 +164,8 @@ marked_before line (f ∷ g ∷ frames) opened = marked_before line (g ∷ frame
 
 pub paragraph_begun : (s : Source) (new : Pass) (frames : List Frame) (inside : Forest Block) (b : Block) (line : Line)
     (held : HeldLine) (source : SourceLine) → held.stop ≡ line.stop → held.next ≡ line.next
-    → new.lines.items ≡ held ∷ [] → new.task ≡ task_at new line held.start
-    → IsBuilt s new.placing.builder frames inside → s.syntax ≡ new.syntax
-    → BeginsText new.placing.builder.text held source b → AreItemsOpenedIn line frames
+    → new.lines.items ≡ held ∷ [] → new.task ≡ task_at new line held.start → IsBuilt s new.placing.builder frames inside
+    → s.syntax ≡ new.syntax → BeginsText new.placing.builder.text held source b → AreItemsOpenedIn line frames
     → HoldsParagraph s new frames inside b (source ∷ [])
 paragraph_begun s new frames inside b line held source stop next lines task built syntax begins opened =
     let view = new.placing.builder in

@@ -1,42 +1,38 @@
 -- What a line begins beside text and underlines: where it may go on with a paragraph, it begins the same as where there
 -- is none.
-use Rattle.std.proofs.Common.{◌≡◌, ℕ, ◌+◌, ◌-◌, Bool, true, false, ◌&&◌, ◌==◌, List, [], ◌∷◌, ◌++◌, Option, Some}
-use Rattle.std.proofs.Common.{None, not, length, drop, slice_range, nat_le, refl, sym, ap, ◌∙◌, subst, arith}
-use Rattle.std.proofs.lemmas.Bool.{true≢false, and_parts, or_right}
+use Rattle.std.proofs.Common.{◌≡◌, ℕ, ◌+◌, Bool, true, false, ◌&&◌, ◌==◌, List, [], ◌∷◌, ◌++◌, Option, Some, None}
+use Rattle.std.proofs.Common.{not, length, drop, slice_range, refl, sym, ap, ◌∙◌, subst, arith}
+use Rattle.std.proofs.lemmas.Bool.{true≢false, and_parts}
 use Rattle.std.proofs.lemmas.Bool.Decides.{nat_tests}
 use Rattle.std.proofs.lemmas.Option.{none-some}
 use Rattle.std.specs.Prelude.{unwrap_or, if◌then◌else◌, slice_index}
 use Rattle.std.specs.List.{prefix_len, list_all}
 use Rattle.std.specs.Option.{option_and_then, option_map}
-use Rattle.markdown_base.specs.Syntax.{reads_metadata}
-use Rattle.markdown_base.specs.Bytes.{hyphen, plus_sign}
-use Rattle.markdown_base.specs.declared.syntax.Syntax.{Syntax}
+use Rattle.markdown_base.specs.Bytes.{hyphen}
 use Rattle.markdown_base.specs.declared.tag.HeadingLevel.{HeadingLevel}
 use Rattle.markdown_base.specs.declared.tag.HeadingLevel.TheVariants as level
 use Rattle.markdown_base.specs.declared.tag.MetadataBlockKind.{MetadataBlockKind}
 use Rattle.markdown_base.specs.declared.tag.MetadataBlockKind.TheVariants as metadata
-use Rattle.markdown_scan.specs.LineStart.{LineLeft, Space, leading_space, space_from, space_width, wider}
+use Rattle.markdown_scan.specs.LineStart.{LineLeft, Space, leading_space}
 use Rattle.markdown_lines.specs.declared.block_start.Before.{Before}
 use Rattle.markdown_lines.specs.declared.block_start.Before.TheVariants as paragraph
 use Rattle.markdown_lines.specs.declared.list_marker.ListMarker.{ListMarker}
 use Rattle.markdown_lines.specs.BlockBeginnings as line
 use Rattle.markdown_base.specs.Source.{Source}
-use Rattle.markdown_lines.specs.BlockBeginnings.{Beginning, begins, begins_after, break_in_line}
-use Rattle.markdown_lines.specs.BlockBeginnings.{fence_in_line, first_found, footnote_in_line, heading_in_line}
-use Rattle.markdown_lines.specs.BlockBeginnings.{html_in_line, item_in_line, item_of, metadata_begun}
-use Rattle.markdown_lines.specs.BlockBeginnings.{metadata_in_line, quote_in_line, underline_in_line}
+use Rattle.markdown_lines.specs.BlockBeginnings.{Beginning, begins, begins_after, break_in_line, fence_in_line}
+use Rattle.markdown_lines.specs.BlockBeginnings.{first_found, footnote_in_line, heading_in_line, html_in_line}
+use Rattle.markdown_lines.specs.BlockBeginnings.{item_in_line, item_of, metadata_begun, metadata_in_line, quote_in_line}
+use Rattle.markdown_lines.specs.BlockBeginnings.{underline_in_line}
 use Rattle.markdown_lines.specs.LineBytes.{is_parted}
 use Rattle.markdown_lines.specs.Lines.{is_space_or_tab}
 use Rattle.markdown_lines.specs.ListMarkers.{if_it_stands, list_marker_at, marker_of, may_interrupt}
-use Rattle.markdown_lines.specs.MetadataBlocks.{are_of_metadata, is_three_of, lines_at, metadata_opened}
-use Rattle.markdown_lines.specs.MetadataBlocks.{opened_before}
+use Rattle.markdown_lines.specs.MetadataBlocks.{is_three_of, metadata_opened}
 use Rattle.markdown_lines.specs.SourceLines.{SourceLine}
 use Rattle.markdown_lines.specs.ThematicBreaks.{setext_level, underline_level}
 use Rattle.markdown_lines.proofs.BlockStartsLemmas.{after_mark, is_mark}
 use Rattle.markdown_block_rules.specs.BlockGrowth.{is_text}
-use Rattle.markdown_block_rules.proofs.BlockBeginningsLemmas.{either}
 use Rattle.markdown_plain.specs.Beginning.{NeedsRoom}
-use Rattle.markdown_plain.proofs.BegunLemmas.{IsLeftOf, begins_same, space_is_of}
+use Rattle.markdown_plain.proofs.BegunLemmas.{IsLeftOf, begins_same, byte_stays, opens_metadata, space_is_of}
 
 -- ---- no text, and no underline
 
@@ -124,8 +120,7 @@ three_hyphens : (bytes : List ℕ) → is_three_of hyphen bytes ≡ true → Thr
 three_hyphens [] three = absurd (true≢false (sym three))
 three_hyphens (b ∷ more) three = decided (b == 45) refl
   where
-    parts : ((prefix_len (λ c. c == 45) (b ∷ more) == 3) ≡ true)
-        × (list_all is_space_or_tab (drop 3 (b ∷ more)) ≡ true)
+    parts : ((prefix_len (λ c. c == 45) (b ∷ more) == 3) ≡ true) × (list_all is_space_or_tab (drop 3 (b ∷ more)) ≡ true)
     parts = and_parts (prefix_len (λ c. c == 45) (b ∷ more) == 3) (list_all is_space_or_tab (drop 3 (b ∷ more))) three
 
     decided : (is : Bool) → (b == 45) ≡ is → ThreeHyphens (b ∷ more)
@@ -142,18 +137,7 @@ three_hyphens (b ∷ more) three = decided (b == 45) refl
         absurd (true≢false (sym parts.0
         ∙ ap (λ test. (if test then 1 + prefix_len (λ c. c == 45) more else 0) == 3) is))
 
--- they are no space
-hyphens_stay : (n scanned owed column : ℕ) (more : List ℕ)
-    → (leading_space n (record { scanned = scanned; owed = owed; column = column; bytes = 45 ∷ more })).after.bytes
-    ≡ 45 ∷ more
-hyphens_stay n scanned owed column more =
-    let here : LineLeft = record { scanned = scanned; owed = owed; column = column; bytes = 45 ∷ more } in
-    either (λ (space : Space). space.after.bytes ≡ 45 ∷ more) (nat_le n owed)
-    (record { columns = n; after = record here { owed = owed - n } })
-    (wider owed (space_from (n - owed) scanned column (45 ∷ more))) refl
-    (rw (or_right (n - owed == 0) (space_width column 45 == 0) refl) refl)
-
--- but an underline
+-- they are an underline
 hyphens_underline : (s : Source) (columns : ℕ) (here : LineLeft) (more : List ℕ) → IsLeftOf s.text here
     → here.bytes ≡ 45 ∷ more → prefix_len (λ b. b == 45) (45 ∷ more) ≡ 3
     → list_all is_space_or_tab (drop 3 (45 ∷ more)) ≡ true
@@ -165,30 +149,6 @@ hyphens_underline s columns here more own are count white =
     after_mark s paragraph.Reached columns here own (ap (λ (bytes : List ℕ). is_mark (slice_index bytes 0)) are)
     ∙ ap (λ o. first_found (option_map line.begins_underline o ∷ break_in_line here ∷
     item_in_line s paragraph.Reached columns here ∷ [])) (ap setext_level are ∙ level)
-
--- a line that opens metadata between hyphens is three of them
-opened_by_hyphens : (syntax : Syntax) (text content : List ℕ) (next : ℕ)
-    → metadata_opened syntax text content next ≡ Some metadata.YamlStyle → is_three_of hyphen content ≡ true
-opened_by_hyphens syntax text content next opened =
-    decided (is_three_of hyphen content) (is_three_of plus_sign content) opened
-  where
-    IsYaml : Option MetadataBlockKind → Type 0
-    IsYaml (Some metadata.YamlStyle) = Unit
-    IsYaml other = ⊥
-
-    of_pluses : (test : Bool) → (if test then Some metadata.PlusesStyle else None) ≡ Some metadata.YamlStyle → ⊥
-    of_pluses true is = subst IsYaml (sym is) tt
-    of_pluses false is = subst IsYaml (sym is) tt
-
-    decided : (hyphens pluses : Bool)
-        → option_and_then (opened_before syntax text next)
-        (if hyphens then Some metadata.YamlStyle else if pluses then Some metadata.PlusesStyle else None)
-        ≡ Some metadata.YamlStyle → hyphens ≡ true
-    decided true pluses is = refl
-    decided false true is =
-        absurd (of_pluses (reads_metadata syntax metadata.PlusesStyle
-        && are_of_metadata metadata.PlusesStyle (lines_at text next)) is)
-    decided false false is = absurd (none-some metadata.YamlStyle is)
 
 -- ---- the same beginning
 
@@ -209,7 +169,7 @@ reached_alone s l b own is block = by_columns ((leading_space 4 l.left).columns 
     hyphens : ThreeHyphens l.left.bytes → after paragraph.Reached ≡ line.begins_underline level.H2
     hyphens three =
         let stay = ap (λ bytes. (leading_space 4 (record l.left { bytes = bytes })).after.bytes) three.are
-        ∙ hyphens_stay 4 l.left.scanned l.left.owed l.left.column three.more in
+        ∙ byte_stays 45 4 l.left.scanned l.left.owed l.left.column three.more refl in
         hyphens_underline s space.columns space.after three.more (space_is_of s.text 4 l.left own) stay three.count
         three.white
 
@@ -224,7 +184,8 @@ reached_alone s l b own is block = by_columns ((leading_space 4 l.left).columns 
     by_metadata true (Some metadata.PlusesStyle) found is = alone is
     by_metadata true (Some metadata.YamlStyle) found is =
         absurd (subst BeginsBlock (sym is ∙ hyphens
-        (three_hyphens l.left.bytes (opened_by_hyphens s.syntax s.text l.left.bytes l.next found))) block)
+        (three_hyphens l.left.bytes (opens_metadata s.syntax s.text l.left.bytes l.next
+        metadata.YamlStyle found).three)) block)
 
     by_columns : (full : Bool)
         → (if full then line.begins_text else unwrap_or (metadata_in_line s paragraph.Reached l)

@@ -1,9 +1,10 @@
 -- Containers that begin with the rest of a line, and what is left of the line inside them.
 use Rattle.std.proofs.Common.{◌≡◌, ℕ, ◌<◌, ◌≤◌, Bool, true, false, List, [], ◌∷◌, ◌++◌, refl, sym, ap, ◌∙◌, subst}
-use Rattle.std.proofs.Common.{arith, append-nil, length, if◌then◌else◌, ◌&&◌, ◌==◌, nat_le}
+use Rattle.std.proofs.Common.{arith, append-nil, length, if◌then◌else◌, ◌==◌, nat_le}
 use Rattle.std.proofs.lemmas.Bool.Decides.{nat_tests}
 use Rattle.std.specs.List.{list_all}
 use Rattle.std.specs.Str.{IsCharBoundary}
+use Rattle.std.proofs.Math.Bool.{and-false}
 use Rattle.markdown_base.specs.Forest.{Forest, nil, node}
 use Rattle.markdown_builder.specs.TreeLevels.{followed_by}
 use Rattle.markdown_scan.specs.LineStart.{LineLeft}
@@ -40,7 +41,6 @@ use Rattle.markdown_plain.proofs.FramesInsideLemmas.{inner_last}
 use Rattle.markdown_plain.proofs.FramesLemmas.{rebuilt_more}
 use Rattle.markdown_plain.proofs.LooseFramesLemmas.{loose_more}
 use Rattle.markdown_plain.proofs.OpenedFramesLemmas.{as_many_containers}
-use Rattle.markdown_plain.proofs.PassedMarkersLemmas.{HoldsPast, begins_past}
 use Rattle.markdown_plain.proofs.ReachedFramesLemmas.{blank_at, end_of}
 
 -- ---- one more container
@@ -65,8 +65,7 @@ empty_more (g ∷ []) f inside empty known = known
 empty_more (g ∷ h ∷ frames) f inside empty known = empty_more (h ∷ frames) f inside empty known
 
 -- nothing is in it, so that its first line is the last
-first_more : (frames : List Frame) (f : Frame) (before : ℕ)
-    → placed_end before (frames ++ f ∷ []) nil ≡ f.block.first
+first_more : (frames : List Frame) (f : Frame) (before : ℕ) → placed_end before (frames ++ f ∷ []) nil ≡ f.block.first
 first_more [] f before = refl
 first_more (g ∷ frames) f before = first_more frames f g.block.first
 
@@ -94,14 +93,9 @@ loose_inside now frames inside b holds before =
 
 -- ---- what is left inside it
 
-and_false : (b : Bool) → (b && false) ≡ false
-and_false true = refl
-and_false false = refl
-
 -- the rest of a line inside a container that it begins
-left_inside : (s : Source) (rest : LineRest) (source : SourceLine) (inside : Position) (depth : ℕ)
-    (before : Before) → IsLeft s rest source → IsRestOf source.left (left_at rest.reader inside)
-    → IsCharBoundary s.text inside.at
+left_inside : (s : Source) (rest : LineRest) (source : SourceLine) (inside : Position) (depth : ℕ) (before : Before)
+    → IsLeft s rest source → IsRestOf source.left (left_at rest.reader inside) → IsCharBoundary s.text inside.at
     → IsLeft s (record rest { position = inside; depth = depth; before = before })
     (rest_inside (left_at rest.reader inside) source)
 left_inside s rest source inside depth before left is boundary =
@@ -124,7 +118,7 @@ left_inside s rest source inside depth before left is boundary =
       start = left.start;
       next = left.next;
       indent = left.indent;
-      outermost = λ reads. rw (other, and_false rest.reader.outermost) refl;
+      outermost = λ reads. rw (other, and-false rest.reader.outermost) refl;
       after = omega (arith, left.after, here, is.after);
       boundary = boundary;
       from = left.from;
@@ -134,12 +128,10 @@ left_inside s rest source inside depth before left is boundary =
 -- it begins later in the line
 inside_later : (s : Source) (rest : LineRest) (source : SourceLine) (inside : Position) (depth : ℕ)
     → IsLeft s rest source → IsRestOf source.left (left_at rest.reader inside)
-    → turn_place rest
-    < turn_place (record rest { position = inside; depth = depth; before = paragraph.NoParagraph })
+    → turn_place rest < turn_place (record rest { position = inside; depth = depth; before = paragraph.NoParagraph })
 inside_later s rest source inside depth left is =
     let here : rest.position.at ≡ source.left.scanned = ap (λ (l : LineLeft). l.scanned) left.is.rest.left in
-    let one = at_most_one (is_paragraph rest.before) in
-    omega (arith, here, one, is.after)
+    omega (arith, here, at_most_one (is_paragraph rest.before), is.after)
   where
     at_most_one : (b : Bool) → (if b then 0 else 1) ≤ 1
     at_most_one true = omega arith
@@ -172,18 +164,16 @@ pub record AreInLine (line : Line) (frames : List Frame) : Type 0 where
   pub earlier : AreOpenedBefore line.next frames
 
 -- the content of a rest that is not blank begins before its end
-pub content_before : (left : LineLeft) → list_all is_space_or_tab left.bytes ≡ false
-    → left_content left < end_of left
+pub content_before : (left : LineLeft) → list_all is_space_or_tab left.bytes ≡ false → left_content left < end_of left
 content_before left filled =
-    let order = blank_at left ∙ filled in grind (arith, nat_tests, order)
+    grind (arith, nat_tests, blank_at left ∙ filled)
 
 -- a block that begins with such a rest begins before the end of its line
 earlier_here : (s : Source) (rest : LineRest) (source : SourceLine) (kind : Kind) → IsLeft s rest source
     → is_blank_rest source ≡ false → IsOpenedBefore rest.line.next (begun_block source kind)
 earlier_here s rest source kind left filled =
-    let before = content_before source.left filled in
     record {
-      start = omega (arith, before, left.is.stop, left.is.ends);
+      start = omega (arith, content_before source.left filled, left.is.stop, left.is.ends);
       first = omega (arith, left.is.rest.next);
     }
 
@@ -208,14 +198,8 @@ in_line_more s rest source kind frames inside left filled are = record {
 opened_in : (s : Source) (now : Pass) (line : Line) (frames : List Frame) (inside : Forest Block) (b : Block)
     → MayBegin s now line frames inside → IsBuilt s now.placing.builder (with_frame frames inside b) nil
     → HoldsBlocks b.kind → OpensIn s now frames inside b
-opened_in s now line frames inside b may built holds = record {
-  source = may.source;
-  built = built;
-  lines = may.lines;
-  blanks = may.blanks;
-  loose = loose_inside now.looseness frames inside b holds may.loose;
-  free = holds.free;
-}
+opened_in s now line frames inside b may built holds =
+    assumption (loose_inside now.looseness frames inside b holds may.loose)
 
 -- the rest of the line is read inside it
 pub container_inside : (s : Source) (now : Pass) (rest next : LineRest) (outer : List Frame) (before : Forest Block)
@@ -235,26 +219,16 @@ container_inside s now rest next outer before source blocks inside kind left fil
     whole items =
     let b = begun_block source kind in
     let f : Frame = record { before = before; block = b } in
-    let more = in_line_more s rest source kind outer before left filled are in
     let deep = length now.placing.builder.blocks in
     subst (λ (r : LineRest). ReadsOn s now rest r blocks) (sym goes) (record {
       turn = here.later (with_frame outer before b);
       source = rest_inside (left_at rest.reader inside) source;
       here = record {
-        opened = record {
-          source = opens.source;
-          free = record {
-            built = opens.built;
-            lines = opens.lines;
-            free = inner_last is_list outer f ∙ opens.free;
-          };
-          blanks = opens.blanks;
-          loose = opens.loose;
-          quotes = more.quotes;
-          items = more.items;
-          first = first_more outer f 0 ∙ sym left.is.rest.next;
-          earlier = more.earlier;
-        };
+        opened = assumption (
+          in_line_more s rest source kind outer before left filled are,
+          inner_last is_list outer f ∙ opens.free,
+          first_more outer f 0 ∙ sym left.is.rest.next,
+        );
         left = left_inside s rest source inside deep paragraph.NoParagraph left is boundary;
         inner = refl;
         depth = as_many_containers s now.placing.builder (with_frame outer before b) nil opens.built;
@@ -271,46 +245,41 @@ container_inside s now rest next outer before source blocks inside kind left fil
 -- ---- where there is room for it
 
 -- the rest inside what begins there
-pub rest_in_room : (s : Source) (pass : Pass) (rest : LineRest) (source : SourceLine) (b : Beginning)
-    (blocks : Forest Block) → HasRoom s pass rest source b blocks → HoldsRest source.left b
-rest_in_room s pass rest source b blocks room =
+pub rest_in_room : {s : Source} {pass : Pass} {rest : LineRest} {source : SourceLine} {b : Beginning}
+    {blocks : Forest Block} → HasRoom s pass rest source b blocks → HoldsRest source.left b
+rest_in_room {s} {pass} {rest} {source} {b} {blocks} room =
     subst (HoldsRest source.left) room.is (begins_rest s paragraph.NoParagraph source
+    (left_from_is_of s.text rest.position rest.line.stop source.left room.left.is.rest.left)
     (subst (λ n. n ≤ 3) (ap (λ (l : LineLeft). l.owed) room.left.is.rest.left) room.left.is.rest.few))
 
--- it is after the first byte of its marker
-pub past_in_room : (s : Source) (pass : Pass) (rest : LineRest) (source : SourceLine) (b : Beginning)
-    (blocks : Forest Block) → HasRoom s pass rest source b blocks → HoldsPast source.left b
-past_in_room s pass rest source b blocks room =
-    subst (HoldsPast source.left) room.is (begins_past s paragraph.NoParagraph source
-    (left_from_is_of s.text rest.position rest.line.stop source.left room.left.is.rest.left))
-
 -- its containers go on in the line
-pub line_in_room : (s : Source) (pass : Pass) (rest : LineRest) (source : SourceLine) (b : Beginning)
-    (blocks : Forest Block) → (room : HasRoom s pass rest source b blocks) → AreInLine rest.line room.frames
-line_in_room s pass rest source b blocks room =
+pub line_in_room : {s : Source} {pass : Pass} {rest : LineRest} {source : SourceLine} {b : Beginning}
+    {blocks : Forest Block} → (room : HasRoom s pass rest source b blocks) → AreInLine rest.line room.frames
+line_in_room {s} {pass} {rest} {source} {b} {blocks} room =
     record { quotes = room.may.quotes; items = room.may.items; earlier = room.may.earlier }
 
 -- the rest of the line is read inside a container that begins there
-pub room_inside : (s : Source) (room now : Pass) (rest next : LineRest) (source : SourceLine) (begun : Beginning)
-    (blocks : Forest Block) (inside : Position) (kind : Kind) → (has : HasRoom s room rest source begun blocks)
+pub room_inside : {s : Source} {room now : Pass} {rest next : LineRest} {source : SourceLine} {begun : Beginning}
+    {blocks : Forest Block} (inside : Position) (kind : Kind) → (has : HasRoom s room rest source begun blocks)
     → next ≡ record rest {
       position = inside;
       depth = length now.placing.builder.blocks;
       before = paragraph.NoParagraph;
     }
-    → IsRestOf source.left (left_at rest.reader inside) → content_of source ≤ inside.at
-    → now.placing.builder.at ≡ content_of source → IsCharBoundary s.text inside.at → KeepsRest room now
+    → IsRestOf source.left (left_at rest.reader inside) → now.placing.builder.at ≡ content_of source
+    → IsCharBoundary s.text inside.at → KeepsRest room now
     → IsBuilt s now.placing.builder (with_frame has.frames has.inside (begun_block source kind)) nil
     → HoldsBlocks kind
     → new_blocks (inside_of (begun_by s) source) source begun
     ≡ node (begun_block source kind) (begun_in_rest s (rest_inside (left_at rest.reader inside) source)) nil
     → ReadsOn s now rest next blocks
-room_inside s room now rest next source begun blocks inside kind has goes is past at boundary keeps built holds new =
+room_inside {s} {room} {now} {rest} {next} {source} {begun} {blocks} inside kind has goes is at boundary keeps
+    built holds new =
     let b = begun_block source kind in
     container_inside s now rest next has.frames has.inside source blocks inside kind has.left has.filled goes is
-    boundary (omega (arith, past, at))
+    boundary (omega (arith, is.past, at))
     (opened_in s now rest.line has.frames has.inside b
     (still_may s room now rest.line has.frames has.inside has.may keeps) built holds)
-    (line_in_room s room rest source begun blocks has)
-    (begun_in_room s room rest source begun blocks has
+    (line_in_room has)
+    (begun_in_room has
     ∙ ap (λ made. rebuilt has.frames (followed_by has.inside made)) new) has.items

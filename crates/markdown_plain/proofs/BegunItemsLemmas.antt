@@ -1,7 +1,7 @@
 -- Items that begin with the rest of a line, in the list that goes on with them, or in a new one.
-use Rattle.std.proofs.Common.{◌≡◌, ℕ, ◌<◌, ◌≤◌, Bool, true, false, List, [], ◌∷◌, ◌++◌, Option, Some, None, length}
+use Rattle.std.proofs.Common.{◌≡◌, ℕ, ◌<◌, ◌≤◌, Bool, true, false, List, [], ◌∷◌, ◌++◌, Some, None, length}
 use Rattle.std.proofs.Common.{append_assoc, map, take, drop, refl, sym, ap, ◌∙◌, subst, arith, if◌then◌else◌, ◌==◌}
-use Rattle.std.proofs.lemmas.List.{map_push}
+use Rattle.std.proofs.lemmas.List.{drop_all, map_push, take_all}
 use Rattle.std.proofs.lemmas.Bool.{true≢false}
 use Rattle.std.specs.Str.{IsCharBoundary}
 use Rattle.markdown_base.specs.Forest.{Forest, nil, node}
@@ -26,15 +26,15 @@ use Rattle.markdown_plain.specs.Beginning.{HoldsLast, IsFirst, IsFound, IsHere, 
 use Rattle.markdown_plain.specs.Beginning.{begun_in_rest}
 use Rattle.markdown_plain.specs.Beginning as turn
 use Rattle.markdown_plain.specs.Closing.{AreItemsInLists}
-use Rattle.markdown_plain.specs.Frames.{AreContainers, AreNested, Frame, forgotten, innermost_is, is_item, is_list}
+use Rattle.markdown_plain.specs.Frames.{AreContainers, AreNested, Frame, forgotten, innermost_is, is_list}
 use Rattle.markdown_plain.specs.Frames.{reached, rebuilt, touched}
 use Rattle.markdown_plain.specs.OpenBlocks.{without_leaf}
 use Rattle.markdown_plain.specs.OpenedFrames.{MayOpen, is_list_for, with_frame, with_item}
+use Rattle.markdown_plain.specs.PassSteps.{OpensItem, between, opened as opened_here}
 use Rattle.markdown_plain.specs.Paragraphs.{source_of}
 use Rattle.markdown_plain.specs.ReachedFrames.{are_none}
 use Rattle.markdown_plain.specs.ReachedLines.{Before, blocks_before, blocks_in, reached_of}
-use Rattle.markdown_plain.specs.Settled.{BlanksKnown, IsBuilt, IsLooseAs}
-use Rattle.markdown_plain.specs.Standing.{AreOpenedBefore, with_last}
+use Rattle.markdown_plain.specs.Standing.{AreOpenedBefore}
 use Rattle.markdown_plain.specs.TextLines.{paragraph_before}
 use Rattle.markdown_plain.proofs.BegunAloneLemmas.{begins_alone}
 use Rattle.markdown_plain.proofs.BegunBlocksLemmas.{begun_block, source_kept}
@@ -46,11 +46,10 @@ use Rattle.markdown_plain.proofs.FoundBlocksLemmas.{found_begins}
 use Rattle.markdown_plain.proofs.FramesLemmas.{innermost_apart, marker_of_list, rebuilt_more}
 use Rattle.markdown_plain.proofs.ItemsInListsLemmas.{line_keeps}
 use Rattle.markdown_plain.proofs.LastBlocksLemmas.{open_are_containers}
-use Rattle.markdown_plain.proofs.OpenedFramesLemmas.{item_placed}
-use Rattle.markdown_plain.proofs.PassedMarkersLemmas.{HoldsPast, begins_past}
+use Rattle.markdown_plain.proofs.OpenedFramesLemmas.{item_placed, list_for_item}
 use Rattle.markdown_plain.proofs.ReachedLemmas.{block_begins, inner_left, item_begins, list_ends, outer_taken}
 use Rattle.markdown_plain.proofs.ReachedLemmas.{reached_next, reached_parts}
-use Rattle.markdown_plain.proofs.RoomForBlocksLemmas.{line_some, none_goes_on}
+use Rattle.markdown_plain.proofs.RoomForBlocksLemmas.{free_touched, line_some, none_goes_on}
 use Rattle.markdown_plain.proofs.RoomLemmas.{last_open}
 use Rattle.markdown_plain.proofs.TouchedFramesLemmas.{earlier_outer, not_opened, built_touched, earlier_touched}
 use Rattle.markdown_plain.proofs.TouchedFramesLemmas.{quotes_touched}
@@ -163,38 +162,28 @@ line_touched to l frames next after earlier = record {
 
 -- ---- the rest of the line is read inside the item
 
--- an item, and a list unless one continues, was opened inside the outermost `depth` of the open blocks
-pub record OpensItem (old new : Pass) (item : ItemStart) (at depth : ℕ) : Type 0 where
-  pub text : new.placing.builder.text ≡ old.placing.builder.text
-  pub syntax : new.syntax ≡ old.syntax
-  pub here : new.placing.builder.at ≡ at
-  pub ended : new.lines.items ≡ []
-  pub dropped : old.placing.builder.leaf ≡ true → new.blanks.items ≡ []
-  pub unheld : old.blanks.items ≡ [] → new.blanks.items ≡ []
-  pub frame : (s : Source) (frames : List Frame) (inside : Forest Block) (last : Option Block) (list b : Block)
-      → HoldsLast s old frames inside last → list.start ≡ at → list.kind ≡ was.list_container item.marker → b.start ≡ at
-      → b.kind ≡ was.item_container item.indent → IsBuilt s new.placing.builder (with_item item.marker list b
-      (take depth frames) (rebuilt (drop depth frames) (with_last inside last))) nil
-  pub loose : (s : Source) (frames : List Frame) (inside : Forest Block) (last : Option Block) (list b : Block)
-      → HoldsLast s old frames inside last → IsLooseAs old.looseness frames (with_last inside last)
-      → BlanksKnown old.looseness.blank_from 0 frames (with_last inside last) → is_list list.kind ≡ true
-      → is_item b.kind ≡ true → IsLooseAs new.looseness (with_item item.marker list b (take depth frames)
-      (rebuilt (drop depth frames) (with_last inside last))) nil
-  pub begins : (s : Source) (frames : List Frame) (inside : Forest Block) (list b : Block) → MayOpen s old frames inside
-      → depth ≡ length frames → list.start ≡ at → list.kind ≡ was.list_container item.marker → b.start ≡ at
-      → b.kind ≡ was.item_container item.indent
-      → IsBuilt s new.placing.builder (with_frame (with_frame frames inside list) nil b) nil
-  pub inside : (s : Source) (frames : List Frame) (list b : Block) → MayOpen s old frames nil
-      → depth ≡ length frames → IsLooseAs old.looseness frames nil → is_list list.kind ≡ true
-      → is_item b.kind ≡ true
-      → (new ≡ record old { placing = new.placing; looseness = new.looseness })
-      × IsLooseAs new.looseness (with_frame (with_frame frames nil list) nil b) nil
+-- the containers that go on in the line are the same to the pass
+may_open_touched : (l : SourceLine) (s : Source) (pass : Pass) (frames : List Frame) → MayOpen s pass frames
+    → MayOpen s pass (map (touched l) frames)
+may_open_touched l s pass frames may = record {
+  built = built_touched l s pass.placing.builder frames nil may.built;
+  loose = same_touched l pass.looseness frames nil may.loose;
+  lines = may.lines;
+  blanks = may.blanks;
+  free = free_touched l frames ∙ may.free;
+}
 
-none_kept : (old new : Pass) (item : ItemStart) (at depth : ℕ) → OpensItem old new item at depth → (leaf : Bool)
-    → old.placing.builder.leaf ≡ leaf → (old.placing.builder.leaf ≡ false → old.blanks.items ≡ [])
-    → new.blanks.items ≡ []
-none_kept old new item at depth opens true is unheld = opens.dropped is
-none_kept old new item at depth opens false is unheld = opens.unheld (unheld is)
+-- an item in no list begins one
+item_in_new_list : (marker : ListMarker) (list item : Block) (frames : List Frame) → innermost_is is_list frames ≡ false
+    → with_item marker list item frames nil ≡ with_frame (with_frame frames nil list) nil item
+item_in_new_list marker list item frames free = by_test (innermost_is (is_list_for marker) frames) refl
+  where
+    by_test : (goes : Bool) → innermost_is (is_list_for marker) frames ≡ goes
+        → with_item marker list item frames nil ≡ with_frame (with_frame frames nil list) nil item
+    by_test true goes = absurd (true≢false (sym (list_for_item marker frames goes) ∙ free))
+    by_test false goes =
+        let all = take_all (length frames) frames (omega arith) in
+        rw (goes, all, free, all, drop_all (length frames) frames (omega arith)) refl
 
 -- the item is what the rest of the line begins
 record BeginsItem (s : Source) (rest : LineRest) (source : SourceLine) (item : ItemStart) : Type 0 where
@@ -213,14 +202,15 @@ item_found s rest source at item left found =
     let begun = found_begins s rest source at (start.Item item) b found refl in
     let own = left_from_is_of s.text rest.position rest.line.stop source.left left.is.rest.left in
     let alone = begins_alone s rest.before source b own begun.1 tt in
+    let is = subst (HoldsRest source.left) alone (begins_rest s paragraph.NoParagraph source own
+    (subst (λ n. n ≤ 3) (ap (λ (l : LineLeft). l.owed) left.is.rest.left) left.is.rest.few)) in
     record {
       filled = begun.0;
       found = begun.1;
       own = own;
       begun = alone;
-      is = subst (HoldsRest source.left) alone (begins_rest s paragraph.NoParagraph source
-          (subst (λ n. n ≤ 3) (ap (λ (l : LineLeft). l.owed) left.is.rest.left) left.is.rest.few));
-      past = subst (HoldsPast source.left) alone (begins_past s paragraph.NoParagraph source own);
+      is = is;
+      past = is.past;
     }
 
 -- it is inside some containers in which the line is read on
@@ -232,22 +222,19 @@ item_inside : (s : Source) (now : Pass) (rest next : LineRest) (source : SourceL
       depth = length now.placing.builder.blocks;
       before = paragraph.NoParagraph;
     }
-    → source_of now ≡ s → now.lines.items ≡ [] → now.blanks.items ≡ [] → now.placing.builder.at ≡ content_of source
-    → AreItemsInLists false blocks → AreInLine rest.line outer
+    → source_of now ≡ s → now.placing.builder.at ≡ content_of source → AreItemsInLists false blocks
+    → AreInLine rest.line outer
     → blocks ≡ rebuilt outer (followed_by inner (item_made s item.indent (left_at rest.reader item.inside) source))
-    → IsBuilt s now.placing.builder
-    (with_frame outer inner (begun_block source (was.item_container item.indent))) nil
-    → IsLooseAs now.looseness (with_frame outer inner (begun_block source (was.item_container item.indent))) nil
+    → MayOpen s now (with_frame outer inner (begun_block source (was.item_container item.indent)))
     → ReadsOn s now rest next blocks
-item_inside s now rest next source blocks item outer inner left begins boundary goes same lines blanks at items are
-    whole built loose =
+item_inside s now rest next source blocks item outer inner left begins boundary goes same at items are whole may =
     container_inside s now rest next outer inner source blocks item.inside (was.item_container item.indent) left
     begins.filled goes begins.is boundary (omega (arith, begins.past, at)) (record {
       source = same;
-      built = built;
-      lines = lines;
-      blanks = blanks;
-      loose = loose;
+      built = may.built;
+      lines = may.lines;
+      blanks = may.blanks;
+      loose = may.loose;
       free = refl;
     }) are whole items
 
@@ -303,10 +290,8 @@ module _ (s : Source) (old now : Pass) (rest next : LineRest) (before : Before) 
       let list = begun_block source (was.list_container marker) in
       let b = begun_block source (was.item_container item.indent) in
       let below = rebuilt r.inner inside in
-      let built = opens.frame s frames before.inside before.last list b holds.unended (sym found.begins) refl
-      (sym found.begins) refl in
-      let loose = opens.loose s frames before.inside before.last list b holds.unended holds.loose holds.blanks refl
-      refl in
+      let may = opens.opens s frames before.inside before.last list b
+      (between holds.unended holds.blanks holds.unheld) (sym found.begins) refl (sym found.begins) refl in
       let parts : with_item marker list b (take n frames) (rebuilt (drop n frames) inside)
       ≡ with_item marker list b r.outer below =
       ap (λ fs. with_item marker list b fs (rebuilt (drop n frames) inside)) (outer_taken s frames inside l)
@@ -318,22 +303,17 @@ module _ (s : Source) (old now : Pass) (rest next : LineRest) (before : Before) 
       let reads : (fs outer : List Frame) (inner : Forest Block)
       → map (touched l) fs ≡ with_frame outer inner b → AreInLine rest.line outer
       → blocks ≡ rebuilt outer (followed_by inner (item_made s item.indent left source))
-      → IsBuilt s now.placing.builder fs nil → IsLooseAs now.looseness fs nil → ReadsOn s now rest next blocks =
-      λ fs outer inner same in_line makes built loose.
+      → MayOpen s now fs → ReadsOn s now rest next blocks =
+      λ fs outer inner same in_line makes may.
       item_inside s now rest next source blocks item outer inner state.left begins_it boundary goes
-      (source_kept s old now opens.text opens.syntax holds.source) opens.ended
-      (none_kept old now item at n opens old.placing.builder.leaf refl holds.unheld)
+      (source_kept s old now opens.text (ap (λ (p : Pass). p.syntax) opens.same) holds.source)
       (opens.here ∙ found.begins)
       (subst (AreItemsInLists false) (sym state.whole) (line_keeps s (rebuilt frames inside) l around.items))
-      in_line makes
-      (subst (λ gs. IsBuilt s now.placing.builder gs nil) same (built_touched l s now.placing.builder fs nil built))
-      (subst (λ gs. IsLooseAs now.looseness gs nil) same (same_touched l now.looseness fs nil loose)) in
+      in_line makes (rw (← same) (may_open_touched l s now fs may)) in
       let in_list : (outer : List Frame) (inner : Forest Block) → AreInLine rest.line (map (touched l) outer)
       → with_line s (blocks_before before) l
       ≡ rebuilt (map (touched l) outer) (followed_by inner (list_made s marker item.indent left source))
-      → IsBuilt s now.placing.builder (with_frame (with_frame outer inner list) nil b) nil
-      → IsLooseAs now.looseness (with_frame (with_frame outer inner list) nil b) nil
-      → ReadsOn s now rest next blocks =
+      → MayOpen s now (with_frame (with_frame outer inner list) nil b) → ReadsOn s now rest next blocks =
       λ outer inner in_line makes.
       reads (with_frame (with_frame outer inner list) nil b) (with_frame (map (touched l) outer) inner list) nil
       (touched_both l outer inner list b ends ends)
@@ -343,8 +323,7 @@ module _ (s : Source) (old now : Pass) (rest next : LineRest) (before : Before) 
       ∙ sym (rebuilt_more (map (touched l) outer) (record { before = inner; block = list })
       (item_made s item.indent left source)))) in
       item_placed
-      (λ fs. IsBuilt s now.placing.builder fs nil → IsLooseAs now.looseness fs nil
-      → ReadsOn s now rest next blocks) marker list b r.outer below
+      (λ fs. MayOpen s now fs → ReadsOn s now rest next blocks) marker list b r.outer below
       (λ goes_on.
       reads (with_frame r.outer below b) (map (touched l) r.outer) below
       (touched_more l r.outer below b ends) (first_line r.outer r.inner whole)
@@ -360,8 +339,7 @@ module _ (s : Source) (old now : Pass) (rest next : LineRest) (before : Before) 
       (sym (append_assoc others (f ∷ []) r.inner) ∙ (ap (λ fs. fs ++ r.inner) (sym is) ∙ whole)))
       (list_after_list s frames inside l source are nested marker item.indent left state.reached none
       begins_it.own state.filled begins_it.begun others f is listed other))
-      (subst (λ fs. IsBuilt s now.placing.builder fs nil) parts built)
-      (subst (λ fs. IsLooseAs now.looseness fs nil) parts loose)
+      (rw (← parts) may)
 
 -- inside containers that it opened
 item_later : (s : Source) (old now : Pass) (rest next : LineRest) (frames : List Frame) (source : SourceLine)
@@ -379,11 +357,11 @@ item_later s old now rest next frames source blocks item at state found boundary
     let list = begun_block source (was.list_container item.marker) in
     let b = begun_block source (was.item_container item.indent) in
     let begins = item_found s rest source at item state.left found in
-    let same = opens.inside s frames list b opened.free state.depth opened.loose refl refl in
-    let built = opens.begins s frames nil list b opened.free state.depth (sym found.begins) refl (sym found.begins)
-    refl in
+    let all = take_all (length frames) frames (omega arith) in
+    let may = opens.opens s frames nil None list b (opened_here opened.free refl state.depth) (sym found.begins) refl
+    (sym found.begins) refl in
     item_inside s now rest next source blocks item (with_frame frames nil list) nil state.left begins boundary goes
-    (source_kept s old now opens.text opens.syntax opened.source) opens.ended (opens.unheld opened.blanks)
+    (source_kept s old now opens.text (ap (λ (p : Pass). p.syntax) opens.same) opened.source)
     (opens.here ∙ found.begins) state.items
     (in_line_more s rest source (was.list_container item.marker) frames nil state.left begins.filled
     (record { quotes = opened.quotes; items = opened.items; earlier = opened.earlier }))
@@ -392,7 +370,12 @@ item_later s old now rest next frames source blocks item at state found boundary
     ∙ ap (new_blocks (inside_of (begun_by s) source) source) begins.begun)
     ∙ sym (rebuilt_more frames (record { before = nil; block = list })
     (item_made s item.indent left source)))))
-    built same.1
+    (rw (
+      state.depth,
+      all,
+      drop_all (length frames) frames (omega arith),
+      item_in_new_list item.marker list b frames opened.free.free,
+    ) at may)
 
 -- in either case
 pub item_reads_on : (s : Source) (old now : Pass) (rest next : LineRest) (turn : Turn) (source : SourceLine)

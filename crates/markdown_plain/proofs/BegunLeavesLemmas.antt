@@ -17,7 +17,7 @@ use Rattle.markdown_lines.specs.declared.block_start.BlockStart.TheVariants as s
 use Rattle.markdown_lines.specs.declared.held_line.HeldLine.{HeldLine}
 use Rattle.markdown_block_rules.specs.BlockGrowth as was
 use Rattle.markdown_block_rules.specs.BlockGrowth.{Block, Kind, begun_by, content_of, inside_of, new_blocks}
-use Rattle.markdown_block_rules.specs.BlockRules.{block_end, block_ends_blank, code_lines, ends_blank, is_blank_block}
+use Rattle.markdown_block_rules.specs.BlockRules.{block_end, block_ends_blank, code_lines, is_blank_block}
 use Rattle.markdown_block_rules.specs.BlockRules.{lines_end as source_lines_end}
 use Rattle.markdown_lines.specs.Positions.{left_from}
 use Rattle.markdown_plain.specs.HeldSources.{AreHeld}
@@ -45,13 +45,14 @@ use Rattle.markdown_plain.specs.Fitting.{stepped}
 use Rattle.markdown_plain.specs.Frames.{Frame, rebuilt}
 use Rattle.markdown_plain.specs.OpenLeaves.{IsLeafIn, IsLineRest, IsOpenIn, IsPlaced, is_leaf, is_table, leaf_block}
 use Rattle.markdown_plain.specs.Paragraphs.{lines_end, source_of}
-use Rattle.markdown_plain.specs.Settled.{IsBuilt, IsLooseAs, IsLooseBefore, QuotesEnd, placed_end}
+use Rattle.markdown_plain.specs.Settled.{IsBuilt, IsLooseAs, QuotesEnd, placed_end}
 use Rattle.markdown_plain.specs.Standing.{AreOpenedBefore, HoldsBlanks, IsLeafKind, MetadataAlone, PlacesFor}
 use Rattle.markdown_plain.specs.Standing.{PlacesLast, is_metadata, with_last}
 use Rattle.std.proofs.lemmas.Bool.{true≢false}
 use Rattle.markdown_builder.specs.TreeLevels.{followed_by}
 use Rattle.markdown_plain.proofs.AddedTextLemmas.{loose_with_leaf}
 use Rattle.markdown_plain.proofs.BegunBlocksLemmas.{KeepsRest, begun_in_room, source_kept, still_may}
+use Rattle.markdown_plain.proofs.BegunLemmas.{left_from_is_of}
 use Rattle.markdown_plain.proofs.BegunRestsLemmas.{HoldsRest, begins_rest}
 use Rattle.markdown_plain.proofs.LooseFramesLemmas.{ends_more}
 use Rattle.markdown_plain.proofs.LastBlocksLemmas.{is_over, leaf_is_over, nothing_is_over}
@@ -61,16 +62,7 @@ use Rattle.markdown_plain.proofs.ReadyPlacesLemmas.{next_between, ready_last}
 -- what is built does not depend on the place
 pub built_at : (s : Source) (old new : BuilderView) (to : ℕ) (frames : List Frame) (inside : Forest Block)
     → new ≡ stepped old to → IsBuilt s old frames inside → IsBuilt s new frames inside
-built_at s old new to frames inside is built =
-    subst (λ (v : BuilderView). IsBuilt s v frames inside) (sym is) (record {
-      text = built.text;
-      blocks = built.blocks;
-      nested = built.nested;
-      outside = built.outside;
-      levels = built.levels;
-      definitions = built.definitions;
-      footnotes = built.footnotes;
-    })
+built_at s old new to frames inside is built = rw is assumption
 
 -- ---- the leaf
 
@@ -80,14 +72,14 @@ pub record IsLeafOf (b : Block) : Type 0 where
   pub ends : block_ends_blank false b.kind ≡ false
 
 pub no_paragraph : (lines : List HeldLine) (to : ℕ) → lines ≡ [] → lines_end lines ≤ to
-no_paragraph lines to none = subst (λ (ls : List HeldLine). lines_end ls ≤ to) (sym none) (omega arith)
+no_paragraph lines to none = rw none (omega arith)
 
 -- the line is placed, by a block that is the last, ended or not
 pub line_places : (s : Source) (now : Pass) (to : ℕ) (frames : List Frame) (before blocks : Forest Block) (b : Block)
     (inside : Forest Block) (last : Option Block) → with_last inside last ≡ followed_by before (leaf_block b)
     → IsLeafOf b → source_of now ≡ s → PlacesLast s now frames inside last → MetadataAlone last frames
     → IfParagraphLast s (Remembers s now to) last → QuotesEnd to frames → AreOpenedBefore to frames
-    → IsLooseBefore now.looseness frames before
+    → IsLooseAs now.looseness frames (followed_by before (leaf_block b))
     → now.blanks.items ≡ [] → lines_end now.lines.items ≤ to
     → blocks ≡ rebuilt frames (followed_by before (leaf_block b)) → AreItemsInLists false blocks
     → IsReadyAfter now to → PlacesFor s now to blocks
@@ -104,9 +96,8 @@ line_places s now to frames before blocks b inside last is leaf source unended a
         unended = unended;
         quotes = quotes;
         items = subst (AreItemsInLists false) whole items;
-        loose = subst (IsLooseAs now.looseness frames) (sym is)
-            (loose_with_leaf now.looseness frames before b leaf.filled loose);
-        filled = ap (ends_blank false) is ∙ (ends_more false before (leaf_block b) ∙ leaf.ends);
+        loose = rw is loose;
+        filled = rw is (ends_more false before (leaf_block b) ∙ leaf.ends);
         before = ends;
         unheld = λ e. blanks;
         earlier = earlier;
@@ -128,8 +119,9 @@ leaf_in_room : (s : Source) (room now : Pass) (rest : LineRest) (source : Source
 leaf_in_room s room now rest source begun blocks b inside last has may leaf is unended alone remembers begins here =
     line_places s now rest.line.next has.frames has.inside blocks b inside last is leaf may.source unended alone
     remembers
-    may.quotes may.earlier may.loose may.blanks (no_paragraph now.lines.items rest.line.next may.lines)
-    (begun_in_room s room rest source begun blocks has
+    may.quotes may.earlier (loose_with_leaf now.looseness has.frames has.inside b leaf.filled may.loose) may.blanks
+    (no_paragraph now.lines.items rest.line.next may.lines)
+    (begun_in_room has
     ∙ ap (λ made. rebuilt has.frames (followed_by has.inside made)) begins)
     has.items
     (ready_last s now has.frames inside last rest.line.next unended may.lines may.blanks here
@@ -137,7 +129,7 @@ leaf_in_room s room now rest source begun blocks b inside last has may leaf is u
     (next_between s.text rest.line.start rest.line has.left.utf8 has.left.from)))
 
 -- a leaf that ends with the line is the last block there
-ends_here : (s : Source) (view : BuilderView) (frames : List Frame) (inside : Forest Block) (b : Block) (to : ℕ)
+pub ends_here : (s : Source) (view : BuilderView) (frames : List Frame) (inside : Forest Block) (b : Block) (to : ℕ)
     → is_leaf b.kind ≡ true → block_end b b.first b.kind ≡ to
     → view.at ≡ placed_end 0 frames (followed_by inside (leaf_block b)) → view.at ≡ to
 ends_here s view frames inside b to kind ends at = at ∙ (leaf_end frames inside b kind ∙ ends)
@@ -203,7 +195,7 @@ nothing_inside s old now rest frames source at blocks state found same steps =
     (found.is ∙ ap (λ p. begins_unless_blank s p source) state.before)) in
     let source_is = source_kept s old now (ap (λ (v : BuilderView). v.text) steps) (ap (λ (p : Pass). p.syntax) same)
     opened.source in
-    let blanks : now.blanks.items ≡ [] = ap (λ (p : Pass). p.blanks.items) same ∙ opened.blanks in
+    let blanks : now.blanks.items ≡ [] = ap (λ (p : Pass). p.blanks.items) same ∙ opened.free.blanks in
     let placed : PlacesLast s now frames nil None = (
       record {
         built = built_at s old.placing.builder now.placing.builder rest.line.next frames nil steps opened.free.built;
@@ -222,7 +214,7 @@ nothing_inside s old now rest frames source at blocks state found same steps =
         quotes = opened.quotes;
         items = subst (AreItemsInLists false) whole state.items;
         loose = subst (λ (n : Looseness). IsLooseAs n frames nil) (sym (ap (λ (p : Pass). p.looseness) same))
-            opened.loose;
+            opened.free.loose;
         filled = refl;
         before = no_paragraph now.lines.items rest.line.next lines;
         unheld = λ e. blanks;
@@ -341,4 +333,5 @@ pub code_in_room : (s : Source) (room : Pass) (rest : LineRest) (source : Source
     → AreAlike left source.left × (left.owed ≤ 3) × (source.left.scanned ≤ left.scanned)
 code_in_room s room rest source left blocks has =
     subst (HoldsRest source.left) has.is (begins_rest s paragraph.NoParagraph source
+    (left_from_is_of s.text rest.position rest.line.stop source.left has.left.is.rest.left)
     (subst (λ n. n ≤ 3) (ap (λ (l : LineLeft). l.owed) has.left.is.rest.left) has.left.is.rest.few))

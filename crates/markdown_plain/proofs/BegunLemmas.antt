@@ -1,8 +1,8 @@
 -- What a line begins that no paragraph reaches: where it is no text, it begins the same whether or not there is a
 -- paragraph that it could continue; and what begins with it holds what begins with the rest of it.
 use Rattle.std.proofs.Common.{◌≡◌, ◌⊎◌, inl, inr, ⊎_elim, ℕ, suc, ◌+◌, ◌-◌, ◌<◌, Bool, true, false, ◌&&◌, ◌||◌, ◌==◌}
-use Rattle.std.proofs.Common.{List, [], ◌∷◌, Option, Some, None, length, drop, slice_range, codes, nat_le, nat_lt}
-use Rattle.std.proofs.Common.{refl, sym, ap, ◌∙◌, subst, arith}
+use Rattle.std.proofs.Common.{List, [], ◌∷◌, Option, Some, None, length, drop, slice_range, codes, nat_le, nat_lt, refl}
+use Rattle.std.proofs.Common.{sym, ap, ◌∙◌, subst, arith}
 use Rattle.std.proofs.lemmas.Bool.{true≢false, and_parts, or_right}
 use Rattle.std.proofs.lemmas.Bool.Decides.{nat_tests}
 use Rattle.std.proofs.lemmas.Option.{none-some}
@@ -26,13 +26,12 @@ use Rattle.markdown_lines.specs.declared.list_marker.ListMarker.{ListMarker}
 use Rattle.markdown_lines.specs.declared.position.Position.{Position}
 use Rattle.markdown_lines.specs.BlockBeginnings as line
 use Rattle.markdown_base.specs.Source.{Source}
-use Rattle.markdown_lines.specs.BlockBeginnings.{Beginning, begins, begins_after, first_found, item_in_line}
-use Rattle.markdown_lines.specs.BlockBeginnings.{item_of, metadata_begun, metadata_in_line}
+use Rattle.markdown_lines.specs.BlockBeginnings.{Beginning, begins, begins_after, first_found, item_in_line, item_of}
+use Rattle.markdown_lines.specs.BlockBeginnings.{metadata_begun, metadata_in_line}
 use Rattle.markdown_lines.specs.HtmlBeginnings.{is_lone_tag, known_kind}
 use Rattle.markdown_lines.specs.Lines.{is_space_or_tab}
 use Rattle.markdown_lines.specs.ListMarkers.{if_it_stands, marker_of}
-use Rattle.markdown_lines.specs.MetadataBlocks.{are_of_metadata, is_three_of, lines_at, metadata_opened}
-use Rattle.markdown_lines.specs.MetadataBlocks.{opened_before}
+use Rattle.markdown_lines.specs.MetadataBlocks.{are_of_metadata, is_three_of, lines_at, metadata_opened, opened_before}
 use Rattle.markdown_lines.specs.Positions.{left_from}
 use Rattle.markdown_lines.specs.SourceLines.{SourceLine, is_blank_rest, rest_inside}
 use Rattle.markdown_lines.specs.ThematicBreaks.{is_thematic_break}
@@ -89,6 +88,17 @@ space_is_of text n left is =
     (wider left.owed (space_from (n - left.owed) left.scanned left.column left.bytes)) is
     (space_from_is_of text (n - left.owed) left.scanned left.column left.bytes is)
 
+-- a byte that is no space stays after space
+pub byte_stays : (byte n scanned owed column : ℕ) (more : List ℕ) → (space_width column byte == 0) ≡ true
+    → (leading_space n (record { scanned = scanned; owed = owed; column = column; bytes = byte ∷ more })).after.bytes
+    ≡ byte ∷ more
+byte_stays byte n scanned owed column more none =
+    let here : LineLeft = record { scanned = scanned; owed = owed; column = column; bytes = byte ∷ more } in
+    either (λ (space : Space). space.after.bytes ≡ byte ∷ more) (nat_le n owed)
+    (record { columns = n; after = record here { owed = owed - n } })
+    (wider owed (space_from (n - owed) scanned column (byte ∷ more))) refl
+    (rw (or_right (n - owed == 0) (space_width column byte == 0) none) refl)
+
 -- ---- three pluses
 
 -- two pluses, and what follows them
@@ -122,17 +132,6 @@ two_pluses bytes three =
         decided true false one two three = absurd (true≢false (sym three))
         decided false same one two three = absurd (true≢false (sym three))
 
--- they are no space
-pluses_stay : (n scanned owed column : ℕ) (more : List ℕ)
-    → (leading_space n (record { scanned = scanned; owed = owed; column = column; bytes = 43 ∷ 43 ∷ more })).after.bytes
-    ≡ 43 ∷ 43 ∷ more
-pluses_stay n scanned owed column more =
-    let here : LineLeft = record { scanned = scanned; owed = owed; column = column; bytes = 43 ∷ 43 ∷ more } in
-    either (λ (space : Space). space.after.bytes ≡ 43 ∷ 43 ∷ more) (nat_le n owed)
-    (record { columns = n; after = record here { owed = owed - n } })
-    (wider owed (space_from (n - owed) scanned column (43 ∷ 43 ∷ more))) refl
-    (rw (or_right (n - owed == 0) (space_width column 43 == 0) refl) refl)
-
 -- and begin nothing else that could continue a paragraph
 pluses_are_text : (s : Source) (columns : ℕ) (here : LineLeft) (more : List ℕ) → IsLeftOf s.text here
     → here.bytes ≡ 43 ∷ 43 ∷ more → begins_after s paragraph.Lazy columns here ≡ line.begins_text
@@ -143,29 +142,43 @@ pluses_are_text s columns here more own are =
     ∙ ap (λ (content : List ℕ). first_found (option_map (item_of columns here)
     (if_it_stands (marker_of content) content false) ∷ [])) (own ∙ are))
 
--- a line that opens metadata of pluses is three of them
-opened_by_pluses : (syntax : Syntax) (text content : List ℕ) (next : ℕ)
-    → metadata_opened syntax text content next ≡ Some metadata.PlusesStyle → is_three_of plus_sign content ≡ true
-opened_by_pluses syntax text content next opened =
-    decided (is_three_of hyphen content) (is_three_of plus_sign content) opened
+-- ---- metadata
+
+-- the byte that opens metadata of a kind
+abbrev pub sign_of : MetadataBlockKind → ℕ
+sign_of metadata.YamlStyle = hyphen
+sign_of metadata.PlusesStyle = plus_sign
+
+-- a line that opens metadata is three times this byte, and that is read
+pub record OpensMetadata (syntax : Syntax) (content : List ℕ) (kind : MetadataBlockKind) : Type 0 where
+  pub three : is_three_of (sign_of kind) content ≡ true
+  pub read : reads_metadata syntax kind ≡ true
+
+pub opens_metadata : (syntax : Syntax) (text content : List ℕ) (next : ℕ) (kind : MetadataBlockKind)
+    → metadata_opened syntax text content next ≡ Some kind → OpensMetadata syntax content kind
+opens_metadata syntax text content next kind opened =
+    decided (is_three_of hyphen content) (is_three_of plus_sign content) refl refl opened
   where
-    IsPluses : Option MetadataBlockKind → Type 0
-    IsPluses (Some metadata.PlusesStyle) = Unit
-    IsPluses other = ⊥
+    is_found : (of : MetadataBlockKind) (test : Bool) → (if test then Some of else None) ≡ Some kind
+        → (test ≡ true) × (of ≡ kind)
+    is_found of true is = (refl, ap (λ (o : Option MetadataBlockKind). unwrap_or o of) is)
+    is_found of false is = absurd (none-some kind is)
 
-    of_hyphens : (test : Bool) → (if test then Some metadata.YamlStyle else None) ≡ Some metadata.PlusesStyle → ⊥
-    of_hyphens true is = subst IsPluses (sym is) tt
-    of_hyphens false is = subst IsPluses (sym is) tt
+    of_kind : (of : MetadataBlockKind) → is_three_of (sign_of of) content ≡ true
+        → opened_before syntax text next of ≡ Some kind → OpensMetadata syntax content kind
+    of_kind of three is =
+        let are = are_of_metadata of (lines_at text next) in
+        let found = is_found of (reads_metadata syntax of && are) is in
+        subst (OpensMetadata syntax content) found.1
+        (record { three = three; read = (and_parts (reads_metadata syntax of) are found.0).0 })
 
-    decided : (hyphens pluses : Bool)
+    decided : (hyphens pluses : Bool) → is_three_of hyphen content ≡ hyphens → is_three_of plus_sign content ≡ pluses
         → option_and_then (opened_before syntax text next)
         (if hyphens then Some metadata.YamlStyle else if pluses then Some metadata.PlusesStyle else None)
-        ≡ Some metadata.PlusesStyle → pluses ≡ true
-    decided true pluses is =
-        absurd (of_hyphens (reads_metadata syntax metadata.YamlStyle
-        && are_of_metadata metadata.YamlStyle (lines_at text next)) is)
-    decided false true is = refl
-    decided false false is = absurd (none-some metadata.PlusesStyle is)
+        ≡ Some kind → OpensMetadata syntax content kind
+    decided true pluses these others is = of_kind metadata.YamlStyle these is
+    decided false true these others is = of_kind metadata.PlusesStyle others is
+    decided false false these others is = absurd (none-some kind is)
 
 -- ---- the same beginning
 
@@ -221,7 +234,7 @@ begins_alike s l own = by_columns ((leading_space 4 l.left).columns == 4)
     pluses : TwoPluses l.left.bytes → after paragraph.Lazy ≡ line.begins_text
     pluses two =
         let stay = ap (λ bytes. (leading_space 4 (record l.left { bytes = bytes })).after.bytes) two.are
-        ∙ pluses_stay 4 l.left.scanned l.left.owed l.left.column two.more in
+        ∙ byte_stays 43 4 l.left.scanned l.left.owed l.left.column (43 ∷ two.more) refl in
         pluses_are_text s space.columns space.after two.more (space_is_of s.text 4 l.left own) stay
 
     by_metadata : (outermost : Bool) (opened : Option MetadataBlockKind)
@@ -234,7 +247,11 @@ begins_alike s l own = by_columns ((leading_space 4 l.left).columns == 4)
     by_metadata true None is = alike
     by_metadata true (Some metadata.YamlStyle) is = inl refl
     by_metadata true (Some metadata.PlusesStyle) is =
-        inr (pluses (two_pluses l.left.bytes (opened_by_pluses s.syntax s.text l.left.bytes l.next is)), tt)
+        inr (
+          pluses (two_pluses l.left.bytes
+              (opens_metadata s.syntax s.text l.left.bytes l.next metadata.PlusesStyle is).three),
+          tt,
+        )
 
     by_columns : (full : Bool)
         → Alike (if full then line.begins_text else unwrap_or (metadata_in_line s paragraph.Lazy l)
@@ -266,8 +283,7 @@ item_same s l marker own =
 
 -- the blocks that a line begins, from what begins with its rest
 new_alike : (l : SourceLine) (b : Beginning) (f g : LineLeft → Forest Block) (n : ℕ) → HoldsLess n b
-    → ((rest : LineLeft) → length rest.bytes < n → f rest ≡ g rest)
-    → new_blocks f l b ≡ new_blocks g l b
+    → ((rest : LineLeft) → length rest.bytes < n → f rest ≡ g rest) → new_blocks f l b ≡ new_blocks g l b
 new_alike l (line.begins_quote rest) f g n less same = rw (same rest less) refl
 new_alike l (line.begins_footnote label rest) f g n less same = rw (same rest less) refl
 new_alike l (line.begins_item marker indent rest) f g n less same = rw (same rest less) refl
@@ -296,8 +312,7 @@ block_begun s l filled =
     ap (λ blank. if blank then new_block l.left.scanned l blank_line nil else begun_by s l) filled ∙ begun_once s l
 
 -- and is in a list the item that it begins
-pub item_begun : (s : Source) (l : SourceLine) (marker : ListMarker) → IsLeftOf s.text l.left
-    → is_blank_rest l ≡ false
+pub item_begun : (s : Source) (l : SourceLine) (marker : ListMarker) → IsLeftOf s.text l.left → is_blank_rest l ≡ false
     → next_item s l marker ≡ another_item s l marker (begins s paragraph.NoParagraph l)
 item_begun s l marker own filled =
     ap (λ blank. if blank then Some (line_block s l) else another_item s l marker (begins s paragraph.Lazy l)) filled

@@ -27,6 +27,7 @@ use Rattle.markdown_plain.specs.OpenLeaves.{BeginsText, HoldsParagraph, IsLineRe
 use Rattle.markdown_plain.specs.Paragraphs.{lines_end, source_of}
 use Rattle.markdown_plain.specs.Settled.{IsLooseBefore, QuotesEnd}
 use Rattle.markdown_plain.specs.Standing.{AreOpenedBefore, PlacesFor, is_metadata}
+use Rattle.markdown_plain.proofs.AddedTextLemmas.{loose_with_leaf}
 use Rattle.markdown_plain.proofs.BegunBlocksLemmas.{begun_block}
 use Rattle.markdown_plain.specs.TableHeads.{Remembers}
 use Rattle.markdown_plain.proofs.BegunLeavesLemmas.{line_places}
@@ -47,7 +48,7 @@ text_begins text position line source at is place held =
     let bytes : slice_range text position.at line.stop ≡ source.left.bytes =
     ap (λ (l : LineLeft). l.bytes) is.rest.left in
     let from : at ≡ position.at + white = place ∙ ap (λ n. n + white) (sym here) in
-    let other : (at == line.stop) ≡ false = let less = held.some in grind (arith, nat_tests, less) in
+    let other : (at == line.stop) ≡ false = grind (arith, nat_tests, held.some) in
     record {
       is = record {
         start = place;
@@ -93,9 +94,8 @@ end_begins text position line source is filled =
 -- the line is placed by a paragraph that begins
 pub text_inside : (s : Source) (now : Pass) (line : Line) (at : ℕ) (frames : List Frame) (before blocks : Forest Block)
     (b : Block) (source : SourceLine) → b.kind ≡ was.paragraph_leaf (source ∷ []) → source_of now ≡ s
-    → HoldsParagraph s now frames before b (source ∷ []) → QuotesEnd line.next frames
-    → AreOpenedBefore line.next frames → IsLooseBefore now.looseness frames before → now.blanks.items ≡ []
-    → now.lines.items ≡ held_from line at ∷ []
+    → HoldsParagraph s now frames before b (source ∷ []) → QuotesEnd line.next frames → AreOpenedBefore line.next frames
+    → IsLooseBefore now.looseness frames before → now.blanks.items ≡ [] → now.lines.items ≡ held_from line at ∷ []
     → blocks ≡ rebuilt frames (followed_by before (leaf_block b)) → AreItemsInLists false blocks → now.tried ≡ false
     → IsReadyAfter now line.next → PlacesFor s now line.next blocks
 text_inside s now line at frames before blocks b source kind same holds quotes earlier loose blanks lines begins
@@ -107,6 +107,6 @@ text_inside s now line at frames before blocks b source kind same holds quotes e
     }) same (Some (source ∷ []), holds, tt)
     (λ is. absurd (true≢false (sym is ∙ ap is_metadata kind)))
     (kind_remembered s (Remembers s now line.next) b.kind (source ∷ []) kind
-    (λ reads. first_remembered s now line.next (held_from line at) source lines refl untried)) quotes earlier loose
-    blanks
+    (λ reads. first_remembered s now line.next (held_from line at) source lines refl untried)) quotes earlier
+    (loose_with_leaf now.looseness frames before b (ap is_blank_block kind) loose) blanks
     (subst (λ (ls : List HeldLine). lines_end ls ≤ line.next) (sym lines) (omega arith)) begins items ready

@@ -22,6 +22,8 @@ use Rattle.markdown_block_rules.specs.BlockRules.{code_lines, is_blank_block, la
 use Rattle.markdown_plain.specs.declared.pass.LeafKind.TheVariants as leaf
 use Rattle.markdown_plain.specs.declared.pass.Pass.{Pass}
 use Rattle.markdown_plain.specs.Closing.{AreItemsInLists, MayClose, MayEnd}
+use Rattle.markdown_plain.specs.PassSteps.{ClosesDown}
+use Rattle.markdown_plain.proofs.RoomLemmas.{holds_last}
 use Rattle.markdown_plain.specs.Frames.{AreContainers, AreNested, Frame, innermost_is, is_list, reached, rebuilt}
 use Rattle.markdown_plain.specs.Frames.{touched}
 use Rattle.markdown_plain.specs.HeldSources.{AreHeld}
@@ -29,7 +31,7 @@ use Rattle.markdown_plain.specs.ListLooseness.{blank_from}
 use Rattle.markdown_plain.specs.OpenLeaves.{is_leaf, is_table, leaf_block}
 use Rattle.markdown_plain.specs.Paragraphs.{lines_end, source_of}
 use Rattle.markdown_plain.specs.ReachedFrames.{are_none, quote_depth}
-use Rattle.markdown_plain.specs.Closable.{AreClosable, IsClosable}
+use Rattle.markdown_plain.specs.Closable.{AreClosable}
 use Rattle.markdown_plain.specs.Fits.{MayAddBefore}
 use Rattle.markdown_plain.specs.OpenBlocks.{without_leaf}
 use Rattle.markdown_plain.specs.declared.pass.LeafKind.{LeafKind}
@@ -41,17 +43,16 @@ use Rattle.markdown_plain.specs.Standing.{AreOpenedBefore, GoesOnBy, HasLast, Ho
 use Rattle.markdown_plain.specs.Standing.{KnowsLast}
 use Rattle.markdown_plain.specs.Standing.{StandsFor, with_last}
 use Rattle.markdown_plain.proofs.AppendedBlocksLemmas.{blank_is_at_end, blank_is_built}
-use Rattle.markdown_plain.proofs.BlankLinesLemmas.{blank_quotes, empty_blank, item_reached}
+use Rattle.markdown_plain.proofs.BlankLinesLemmas.{blank_alike, blank_quotes, empty_blank, item_reached}
 use Rattle.markdown_plain.proofs.BlanksKnownLemmas.{blank_at_end, blank_known, known_touched, same_touched}
-use Rattle.markdown_plain.proofs.ClosedListsLemmas.{known_of_outermost}
+use Rattle.markdown_plain.proofs.ClosingDownLemmas.{known_of_outermost}
 use Rattle.markdown_plain.proofs.FramesLemmas.{HasMarker, Innermost, goes_on_last, innermost_apart, marker_of_list}
-use Rattle.markdown_plain.proofs.IndentedLeavesLemmas.{blank_cut, blank_held, code_before_blank}
 use Rattle.markdown_plain.proofs.ItemsInListsLemmas.{line_keeps}
 use Rattle.markdown_plain.proofs.LastBlocksLemmas.{leaf_is_over, open_are_containers}
 use Rattle.markdown_plain.proofs.OpenTablesLemmas.{in_leaf_open, leaf_known}
 use Rattle.markdown_plain.proofs.LeafLinesLemmas.{end_touched, leaf_grows, leaf_leaves_off, lists_before_blank}
 use Rattle.markdown_plain.proofs.LeafLinesLemmas.{loose_grown, open_leaf_touched, open_parts}
-use Rattle.markdown_plain.proofs.LinedLeavesLemmas.{grown_to}
+use Rattle.markdown_plain.proofs.LinedLeavesLemmas.{blank_held, code_before_blank, grown_to}
 use Rattle.markdown_plain.proofs.LooseFramesLemmas.{ends_more}
 use Rattle.markdown_plain.proofs.ReachedLemmas.{block_begins, inner_goes_lazily, inner_left, item_begins, outer_taken}
 use Rattle.markdown_plain.proofs.ReachedLemmas.{reached_parts}
@@ -163,7 +164,6 @@ blank_seen pass quoted placed = record pass {
 -- the containers that a line does not reach were closed, and nothing is held back
 pub record HasClosed (s : Source) (old mid : Pass) (outer : List Frame) (inside : Forest Block) : Type 0 where
   pub may : MayClose s mid outer inside
-  pub loose : IsLooseAs mid.looseness outer inside
   pub lines : mid.lines.items ≡ []
   pub blanks : mid.blanks.items ≡ []
   pub source : source_of mid ≡ s
@@ -221,9 +221,9 @@ blank_stands s old mid line reached before source placed by blank off closed quo
     let new = blank_seen mid (quote_depth r.outer) placed in
     let loose : IsLooseAs new.looseness (map (touched source) r.outer) all =
     same_touched source new.looseness r.outer all (record {
-      lists = closed.loose.lists ∙ lists_before_blank r.outer inside b refl;
+      lists = closed.may.loose.lists ∙ lists_before_blank r.outer inside b refl;
       empty = empty_blank mid.looseness.item_is_empty r.outer inside b
-          (item_reached s before.frames now source blank) closed.loose.empty;
+          (item_reached s before.frames now source blank) closed.may.loose.empty;
     }) in
     subst (λ n. StandsFor s (blank_seen mid n placed) line.next (with_line s (blocks_before before) source))
     (sym by.reaches.quoted) (record {
@@ -244,7 +244,7 @@ blank_stands s old mid line reached before source placed by blank off closed quo
               items = subst (AreItemsInLists false) whole (line_keeps s (blocks_before before) source
                   (items_of s old before.frames before.inside before.last stands.unended));
             };
-            lists = loose.lists;
+            loose = loose;
           },
           closed.lines,
           leaf_is_over s inside b refl,
@@ -360,14 +360,15 @@ code_stands_for s old mid line found frames inside b source lines placed by none
             quotes = subst (λ (fs : List Frame). QuotesEnd placed (map (touched source) fs)) all quotes;
             items = subst (AreItemsInLists false) whole
                 (line_keeps s (blocks_before before) source may.items);
-            lists = loose.lists;
+            loose = loose;
           },
           (subst (λ how. IsLeafKind how grown) (sym held.how) tt, held.holds, empty),
         );
         loose = loose;
         blanks = known_touched source new.looseness.blank_from 0 frames after
             (blank_known old.looseness.blank_from texts opened frames now after around.blocks by.stands.blanks
-            (ends_more false inside (leaf_block c) ∙ last_blank lines (cut 4 r.rest) (blank_cut 4 r.rest held.blank)));
+            (ends_more false inside (leaf_block c) ∙ last_blank lines (cut 4 r.rest)
+            (blank_alike 4 r.rest.left ∙ held.blank)));
         before =
             let last = by.stands.before in
             let next = next_after old line source by.is in
@@ -419,7 +420,8 @@ code_stands s old mid line found frames inside (Some b) source placed by blank n
           how = how;
           blank = blank;
           holds = more_blank mid.blanks.items lines knows.0 (cut 4 (reached_of s (last_of frames inside b) source).rest)
-              (blank_cut 4 (reached_of s (last_of frames inside b) source).rest blank) knows.1 (holds knows.0 knows.2);
+              (blank_alike 4 (reached_of s (last_of frames inside b) source).rest.left ∙ blank) knows.1
+              (holds knows.0 knows.2);
         }) may open_leaf empty quotes sees fits
     by_kind other kind may is knows empty = absurd is
 
@@ -434,65 +436,29 @@ code_stands s old mid line found frames inside (Some b) source placed by blank n
 
 -- ---- the containers that a line does not reach are closed
 
--- what closing all but a number of containers does
-pub record ClosesDown (s : Source) (old mid : Pass) (depth : ℕ) : Type 0 where
-  pub forgets : (frames : List Frame) (inside : Forest Block) → old.lines.items ≡ [] → MayClose s old frames inside
-      → MayClose s mid (take depth frames) (rebuilt (drop depth frames) inside)
-  pub finishes : (frames : List Frame) (inside : Forest Block) (b : Block) (held : Option (List SourceLine))
-      → MayEnd s old frames inside b held → MayClose s mid (take depth frames) (rebuilt (drop depth frames)
-      (followed_by inside (leaf_block b)))
-  pub loose : (texts : List (List ℕ)) (frames : List Frame) (inside : Forest Block)
-      → AreOpen texts (without_leaf old.placing.builder) frames → AreNested frames
-      → IsLooseAs old.looseness frames inside → IsLooseAs mid.looseness (take depth frames) (rebuilt (drop depth frames)
-      inside)
-  pub lines : mid.lines.items ≡ []
-  pub dropped : old.placing.builder.leaf ≡ true → mid.blanks.items ≡ []
-  pub unheld : old.blanks.items ≡ [] → mid.blanks.items ≡ []
-  pub source : source_of mid ≡ source_of old
-  pub from : mid.looseness.blank_from ≡ old.looseness.blank_from
-  pub here : IsClosable old → AreClosable mid.placing.builder old.placed
-
-may_close : (s : Source) (old mid : Pass) (depth : ℕ) (frames : List Frame) (inside : Forest Block)
-    (last : Option Block) → ClosesDown s old mid depth → HasLast s old frames inside last
-    → MayClose s mid (take depth frames) (rebuilt (drop depth frames) (with_last inside last))
-may_close s old mid depth frames inside None closes has = closes.forgets frames inside has.1 has.0
-may_close s old mid depth frames inside (Some b) closes has = closes.finishes frames inside b has.0 has.1
-
-no_paragraph : (s : Source) (old mid : Pass) (depth : ℕ) (leaf : Bool) → ClosesDown s old mid depth
-    → old.placing.builder.leaf ≡ leaf → (old.placing.builder.leaf ≡ false → old.blanks.items ≡ [])
-    → mid.blanks.items ≡ []
-no_paragraph s old mid depth true closes is unheld = closes.dropped is
-no_paragraph s old mid depth false closes is unheld = closes.unheld (unheld is)
-
 -- those that it reaches are left
 pub closed_to_reached : (s : Source) (old mid : Pass) (line : Line) (found : code.Reached) (before : Before)
-    (source : SourceLine) → IsReachedBy s old line found before source → ClosesDown s old mid found.depth
+    (source : SourceLine) → IsReachedBy s old line found before source → ClosesDown old mid found.depth
     → HasClosed s old mid (reached_of s before source).outer (rebuilt (reached_of s before source).inner
     (blocks_in before))
 closed_to_reached s old mid line found before source by closes =
     let stands = by.stands in
     let now = blocks_in before in
     let r = reached_of s before source in
-    let parts = open_parts s old before.frames before.inside before.last stands.unended stands.loose in
     let depth = by.reaches.depth in
     let outer : take found.depth before.frames ≡ r.outer =
     ap (λ n. take n before.frames) depth ∙ outer_taken s before.frames now source in
     let inner : drop found.depth before.frames ≡ r.inner =
     ap (λ n. drop n before.frames) depth ∙ inner_left s before.frames now source in
-    let may = may_close s old mid found.depth before.frames before.inside before.last closes stands.unended in
-    let loose = closes.loose old.placing.builder.texts before.frames now
-    (subst (λ (bs : List OpenBlock). AreOpen old.placing.builder.texts bs before.frames) (sym parts.without) parts.are)
-    parts.nested stands.loose in
+    let may = closes.forgets s before.frames before.inside before.last
+    (holds_last s old before.frames before.inside before.last stands.unended) in
     record {
       may = subst (λ (fs : List Frame). MayClose s mid r.outer (rebuilt fs now)) inner
           (subst (λ (fs : List Frame). MayClose s mid fs (rebuilt (drop found.depth before.frames) now)) outer may);
-      loose = subst (λ (fs : List Frame). IsLooseAs mid.looseness r.outer (rebuilt fs now)) inner
-          (subst (λ (fs : List Frame). IsLooseAs mid.looseness fs (rebuilt (drop found.depth before.frames) now))
-          outer loose);
-      lines = closes.lines;
-      blanks = no_paragraph s old mid found.depth old.placing.builder.leaf closes refl stands.unheld;
-      source = closes.source ∙ stands.source;
-      from = closes.from;
+      lines = closes.ended;
+      blanks = closes.unheld stands.unheld;
+      source = rw (closes.text, ap (λ (p : Pass). p.syntax) closes.same) stands.source;
+      from = ap (λ (p : Pass). p.looseness.blank_from) closes.same;
       closable = closes.here stands.ready.closable;
     }
 

@@ -1,6 +1,6 @@
 -- Which open containers end with a blank line, and which lists are loose, after a line.
-use Rattle.std.proofs.Common.{◌≡◌, ℕ, ◌+◌, ◌≤◌, List, [], ◌∷◌, Bool, true, false, ◌&&◌, ◌||◌, not, map}
-use Rattle.std.proofs.Common.{Option, Some, None, refl, sym, ap, ◌∙◌, arith, nat_lt, if◌then◌else◌}
+use Rattle.std.proofs.Common.{◌≡◌, ℕ, ◌+◌, ◌≤◌, List, [], ◌∷◌, Bool, true, false, ◌&&◌, ◌||◌, not, map, Option, Some}
+use Rattle.std.proofs.Common.{None, refl, sym, ◌∙◌, arith, nat_lt, if◌then◌else◌}
 use Rattle.std.proofs.Math.Bool.{and-false, or-true}
 use Rattle.std.proofs.lemmas.Bool.Decides.{nat_tests}
 use Rattle.markdown_base.specs.Forest.{Forest, nil, node}
@@ -8,11 +8,11 @@ use Rattle.markdown_base.specs.declared.item.ItemBody.{ItemBody}
 use Rattle.markdown_lines.specs.SourceLines.{SourceLine}
 use Rattle.markdown_block_rules.specs.BlockGrowth as was
 use Rattle.markdown_block_rules.specs.BlockGrowth.{Block, Kind}
-use Rattle.markdown_block_rules.specs.BlockRules.{are_separated, block_ends_blank, ends_blank, hold_separated, is_loose}
+use Rattle.markdown_block_rules.specs.BlockRules.{are_separated, block_ends_blank, ends_blank, is_loose}
 use Rattle.markdown_builder.specs.declared.open_block.OpenBlock.{OpenBlock}
 use Rattle.markdown_builder.specs.TreeLevels.{followed_by}
 use Rattle.markdown_plain.proofs.LooseFramesLemmas.{closed_separated, ends_more, loose_by_last}
-use Rattle.markdown_plain.specs.Frames.{Frame, forgotten, is_list, is_quote, rebuilt, touched}
+use Rattle.markdown_plain.specs.Frames.{Frame, forgotten, is_quote, rebuilt, touched}
 use Rattle.markdown_plain.specs.ListLooseness.{blank_from}
 use Rattle.markdown_plain.specs.ReachedFrames.{quote_depth}
 use Rattle.markdown_plain.specs.Settled.{AreOpen, BlanksKnown, EmptyKnown, IsBodyOf, IsLooseAs, are_loose, is_blank_in}
@@ -31,21 +31,15 @@ counted false n = refl
 
 some_quote : (frames : List Frame) → nat_lt 0 (quote_depth frames) ≡ has_quote frames
 some_quote [] = refl
-some_quote (f ∷ frames) =
-    counted (is_quote f.block.kind || nat_lt 0 (quote_depth frames)) (quote_depth frames)
-    ∙ ap (λ some. is_quote f.block.kind || some) (some_quote frames)
+some_quote (f ∷ frames) = rw (counted, some_quote frames) refl
 
 quote_there : (f : Frame) (frames : List Frame) → has_quote (f ∷ frames) ≡ true
     → quote_depth (f ∷ frames) ≡ quote_depth frames + 1
-quote_there f frames some =
-    ap (λ test. if test then quote_depth frames + 1 else 0)
-    (ap (λ deeper. is_quote f.block.kind || deeper) (some_quote frames) ∙ some)
+quote_there f frames some = rw (some_quote frames, some) refl
 
 no_quote : (frames : List Frame) → has_quote frames ≡ false → quote_depth frames ≡ 0
 no_quote [] none = refl
-no_quote (f ∷ frames) none =
-    ap (λ test. if test then quote_depth frames + 1 else 0)
-    (ap (λ deeper. is_quote f.block.kind || deeper) (some_quote frames) ∙ none)
+no_quote (f ∷ frames) none = rw (some_quote frames, none) refl
 
 -- ---- how open containers end
 
@@ -74,10 +68,11 @@ ends_open texts [] [] inside these = refl
 ends_open texts [] (f ∷ frames) inside these = absurd these
 ends_open texts (b ∷ blocks) [] inside these = absurd these
 ends_open texts (b ∷ blocks) (f ∷ frames) inside these =
-    ends_last f (rebuilt frames inside)
-    ∙ (in_container texts f.block.kind b.body these.0.body (ends_blank false (rebuilt frames inside))
-    ∙ (ap (λ ends. not (is_quote f.block.kind) && ends) (ends_open texts blocks frames inside these.1)
-    ∙ none_of_two (is_quote f.block.kind) (has_quote frames) (ends_blank false inside)))
+    rw (
+      ends_last f (rebuilt frames inside),
+      in_container texts f.block.kind b.body these.0.body,
+      ends_open texts blocks frames inside these.1,
+    ) (none_of_two (is_quote f.block.kind) (has_quote frames) (ends_blank false inside))
 
 -- ---- a line that is not blank
 
@@ -88,8 +83,7 @@ content_known outside texts [] [] inside these none = tt
 content_known outside texts [] (f ∷ frames) inside these none = absurd these
 content_known outside texts (b ∷ blocks) [] inside these none = absurd these
 content_known outside texts (b ∷ blocks) (f ∷ frames) inside these none = (
-  λ other. sym (ends_open texts blocks frames inside these.1
-      ∙ (ap (λ ends. not (has_quote frames) && ends) none ∙ and-false (not (has_quote frames)))),
+  λ other. rw (ends_open texts blocks frames inside these.1, none) (sym (and-false (not (has_quote frames)))),
   content_known (outside + 1) texts blocks frames inside these.1 none,
 )
 
@@ -104,23 +98,16 @@ quote_inside : (quoted outside : ℕ) (f : Frame) (frames : List Frame) → Quot
     → QuoteAt quoted (outside + 1) frames
 quote_inside quoted outside f frames at = record {
   there = λ some.
-      let whole = ap (λ deeper. is_quote f.block.kind || deeper) some ∙ or-true (is_quote f.block.kind) in
-      let depth = quote_there f frames whole in
-      let here = at.there whole in
-      omega (arith, here, depth);
+      let whole : has_quote (f ∷ frames) ≡ true = rw some (or-true (is_quote f.block.kind)) in
+      omega (arith, at.there whole, quote_there f frames whole);
   outer = λ none. by_kind (is_quote f.block.kind) refl none;
 }
   where
     by_kind : (quote : Bool) → is_quote f.block.kind ≡ quote → has_quote frames ≡ false → quoted ≤ outside + 1
     by_kind true is none =
-        let whole : has_quote (f ∷ frames) ≡ true = ap (λ q. q || has_quote frames) is in
-        let depth = quote_there f frames whole in
-        let here = at.there whole in
-        let deeper = no_quote frames none in
-        omega (arith, here, depth, deeper)
-    by_kind false is none =
-        let here = at.outer (ap (λ q. q || has_quote frames) is ∙ none) in
-        omega (arith, here)
+        let whole : has_quote (f ∷ frames) ≡ true = rw is refl in
+        omega (arith, at.there whole, quote_there f frames whole, no_quote frames none)
+    by_kind false is none = omega (arith, at.outer (rw is none))
 
 from_there : (from : Option ℕ) (quoted outside : ℕ) → quoted ≤ outside
     → is_blank_in (Some (blank_from from quoted)) (outside + 1) ≡ true
@@ -140,16 +127,12 @@ seen_here : (from : Option ℕ) (quoted outside : ℕ) (texts : List (List ℕ))
     → has_quote frames ≡ some
     → is_blank_in (Some (blank_from from quoted)) (outside + 1) ≡ ends_blank false (rebuilt frames now)
 seen_here from quoted outside texts blocks f frames inside now these blank at other known false is =
-    from_there from quoted outside (at.outer (ap (λ q. q || has_quote frames) other ∙ is))
-    ∙ sym (ends_open texts blocks frames now these
-    ∙ (ap (λ some. not some && ends_blank false now) is ∙ blank))
+    rw (ends_open texts blocks frames now these, is, blank) (from_there from quoted outside (at.outer (rw other is)))
 seen_here from quoted outside texts blocks f frames inside now these blank at other known true is =
-    let whole : has_quote (f ∷ frames) ≡ true = ap (λ q. q || has_quote frames) other ∙ is in
-    let depth = quote_there f frames whole in
-    let here = at.there whole in
-    not_there from quoted (outside + 1) (known ∙ (ends_open texts blocks frames inside these
-    ∙ ap (λ some. not some && ends_blank false inside) is)) (omega (arith, here, depth))
-    ∙ sym (ends_open texts blocks frames now these ∙ ap (λ some. not some && ends_blank false now) is)
+    let whole : has_quote (f ∷ frames) ≡ true = rw other is in
+    rw (ends_open texts blocks frames now these, is)
+    (not_there from quoted (outside + 1) (known ∙ rw (ends_open texts blocks frames inside these, is) refl)
+    (omega (arith, at.there whole, quote_there f frames whole)))
 
 seen_from : (from : Option ℕ) (quoted outside : ℕ) (texts : List (List ℕ)) (blocks : List OpenBlock)
     (frames : List Frame) (inside now : Forest Block) → AreOpen texts blocks frames
@@ -170,15 +153,13 @@ pub blank_known : (from : Option ℕ) (texts : List (List ℕ)) (blocks : List O
     (inside now : Forest Block) → AreOpen texts blocks frames → BlanksKnown from 0 frames inside
     → ends_blank false now ≡ true → BlanksKnown (Some (blank_from from (quote_depth frames))) 0 frames now
 blank_known from texts blocks frames inside now these known blank =
-    seen_from from (quote_depth frames) 0 texts blocks frames inside now these known blank (record {
-      there = λ some. omega arith;
-      outer = λ none. let zero_deep = no_quote frames none in omega (arith, zero_deep);
-    })
+    seen_from from (quote_depth frames) 0 texts blocks frames inside now these known blank
+    (record { there = λ some. omega arith; outer = λ none. omega (arith, no_quote frames none) })
 
 -- blocks after which a blank line follows
 pub blank_at_end : (inside : Forest Block) (b : Block) → b.kind ≡ was.blank_line
     → ends_blank false (followed_by inside (node b nil nil)) ≡ true
-blank_at_end inside b is = ends_more false inside (node b nil nil) ∙ ap (block_ends_blank false) is
+blank_at_end inside b is = rw (ends_more, is) refl
 
 -- ---- containers that go on in a line
 
@@ -186,9 +167,7 @@ ends_touched : (l : SourceLine) (frames : List Frame) (inside : Forest Block)
     → ends_blank false (rebuilt (map (touched l) frames) inside) ≡ ends_blank false (rebuilt frames inside)
 ends_touched l [] inside = refl
 ends_touched l (f ∷ frames) inside =
-    ends_last (touched l f) (rebuilt (map (touched l) frames) inside)
-    ∙ (ap (λ ends. block_ends_blank ends f.block.kind) (ends_touched l frames inside)
-    ∙ sym (ends_last f (rebuilt frames inside)))
+    ends_last (touched l f) _ ∙ rw (ends_touched l frames inside) (sym (ends_last f (rebuilt frames inside)))
 
 pub known_touched : (l : SourceLine) (from : Option ℕ) (outside : ℕ) (frames : List Frame) (inside : Forest Block)
     → BlanksKnown from outside frames inside → BlanksKnown from outside (map (touched l) frames) inside
@@ -202,27 +181,20 @@ separated_touched : (l : SourceLine) (frames : List Frame) (inside : Forest Bloc
     → are_separated (rebuilt (map (touched l) frames) inside) ≡ are_separated (rebuilt frames inside)
 separated_touched l [] inside = refl
 separated_touched l (f ∷ frames) inside =
-    closed_separated (touched l f) (rebuilt (map (touched l) frames) inside)
-    ∙ sym (closed_separated f (rebuilt frames inside))
+    rw (closed_separated f (rebuilt frames inside)) (closed_separated (touched l f) _)
 
 loose_touched : (l : SourceLine) (frames : List Frame) (inside : Forest Block)
     → is_loose (rebuilt (map (touched l) frames) inside) ≡ is_loose (rebuilt frames inside)
 loose_touched l [] inside = refl
 loose_touched l (f ∷ frames) inside =
     loose_by_last (touched l f) (rebuilt (map (touched l) frames) inside)
-    ∙ (ap (λ s. (s || hold_separated f.before) || are_separated (rebuilt (map (touched l) frames) inside))
-    (closed_separated (touched l f) nil ∙ sym (closed_separated f nil))
-    ∙ (ap (λ s. (are_separated (forgotten f nil) || hold_separated f.before) || s) (separated_touched l frames inside)
-    ∙ sym (loose_by_last f (rebuilt frames inside))))
+    ∙ rw (closed_separated (touched l f) nil, separated_touched l frames inside)
+    (sym (loose_by_last f (rebuilt frames inside) ∙ rw (closed_separated f nil) refl))
 
 pub lists_touched : (l : SourceLine) (frames : List Frame) (inside : Forest Block)
     → are_loose (map (touched l) frames) inside ≡ are_loose frames inside
 lists_touched l [] inside = refl
-lists_touched l (f ∷ frames) inside =
-    ap (λ loose. if is_list f.block.kind then loose ∷ are_loose (map (touched l) frames) inside
-    else are_loose (map (touched l) frames) inside) (loose_touched l frames inside)
-    ∙ ap (λ flags. if is_list f.block.kind then is_loose (rebuilt frames inside) ∷ flags else flags)
-    (lists_touched l frames inside)
+lists_touched l (f ∷ frames) inside = rw (loose_touched l frames inside, lists_touched l frames inside) refl
 
 empty_touched : (l : SourceLine) (empty : Bool) (frames : List Frame) (inside : Forest Block)
     → EmptyKnown empty frames inside → EmptyKnown empty (map (touched l) frames) inside

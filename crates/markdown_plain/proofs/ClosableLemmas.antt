@@ -1,9 +1,8 @@
 -- Calls that end a paragraph and close blocks fit.
 use Rattle.std.proofs.Common.{◌≡◌, ℕ, zero, suc, ◌+◌, ◌-◌, ◌<◌, ◌≤◌, Bool, true, false, List, [], ◌∷◌, ◌++◌, Option}
-use Rattle.std.proofs.Common.{Some, None, length, drop, take, slice_range, reverse, ⊎_elim, refl, sym, ap, ◌∙◌, subst}
-use Rattle.std.proofs.Common.{arith}
-use Rattle.std.specs.Prelude.{get_or, slice_get, slice_index, ◌==◌, ◌&&◌, ◌||◌, ◌%◌, if◌then◌else◌, nat_lt}
-use Rattle.std.specs.Prelude.{MatchOption, not}
+use Rattle.std.proofs.Common.{Some, None, length, length-append, drop, take, slice_range, reverse, ⊎_elim, refl, sym}
+use Rattle.std.proofs.Common.{ap, ◌∙◌, subst, arith}
+use Rattle.std.specs.Prelude.{get_or, slice_get, slice_index, ◌==◌, ◌&&◌, ◌||◌, ◌%◌, if◌then◌else◌, nat_lt, MatchOption}
 use Rattle.std.specs.Str.{IsCharBoundary, IsUtf8}
 use Rattle.std.specs.List.{prefix_len, suffix_len}
 use Rattle.std.proofs.lemmas.Bool.{and_parts, cases_lt, true≢false}
@@ -14,13 +13,13 @@ use Rattle.std.proofs.lemmas.Option.{same_Some}
 use Rattle.std.proofs.lemmas.Str.{IsCharBoundary-after_ascii, IsCharBoundary-before_ascii}
 use Rattle.std.specs.Option.{option_map_or}
 use Rattle.std.proofs.Math.Bool.{and-false}
-use Rattle.markdown_base.specs.Bytes.{backslash, close_bracket, open_bracket}
+use Rattle.markdown_base.specs.Bytes.{close_bracket, open_bracket}
 use Rattle.markdown_base.specs.declared.item.ItemBody.TheVariants as body
 use Rattle.markdown_base.specs.declared.item.ItemBody.{ItemBody}
 use Rattle.markdown_base.specs.declared.tag.HeadingLevel.{HeadingLevel}
 use Rattle.markdown_base.specs.Forest.{Forest}
 use Rattle.markdown_builder.specs.Bodies.{is_leaf}
-use Rattle.markdown_builder.specs.BuilderView.{BuilderView, Definition, Opens, innermost_block}
+use Rattle.markdown_builder.specs.BuilderView.{BuilderView, Opens, innermost_block}
 use Rattle.markdown_builder.specs.EvenRows.{is_in_row, is_table_row}
 use Rattle.markdown_builder.specs.declared.open_block.OpenBlock.{OpenBlock}
 use Rattle.markdown_builder.specs.Shown.{Shown}
@@ -37,13 +36,13 @@ use Rattle.markdown_plain.specs.Containers.{is_container}
 use Rattle.markdown_plain.specs.OpenBlocks.{innermost_is, is_list, is_quote, outer_of, room_in, without_leaf}
 use Rattle.markdown_plain.specs.OpenBlocks.{without_list}
 use Rattle.markdown_plain.specs.HeldSources.{AreInOrder, AreInParagraph}
-use Rattle.markdown_plain.specs.Paragraphs.{has_paragraph, lines_end}
+use Rattle.markdown_plain.specs.Paragraphs.{has_paragraph}
 use Rattle.markdown_plain.specs.declared.pass.Pass.{Pass}
 use Rattle.markdown_plain.specs.declared.paragraph.Ends.{Ends}
 use Rattle.markdown_plain.specs.Closable.{AreAhead, AreApart, AreClosable, AreContainers, AreInText, has_quote}
-use Rattle.markdown_plain.specs.Closable.{leaf_end, HasBraces, HasRoomFor, HasTask, HaveTask, IsClosable, IsInList}
-use Rattle.markdown_plain.specs.Closable.{IsPlaceable, IsInText, IsLastInText, IsLeafOpen, IsWhiteBefore}
-use Rattle.markdown_plain.specs.Fitting.{GoesOn, OpensHeading, closed, defining, IsAhead, IsWhiteOutside}
+use Rattle.markdown_plain.specs.Closable.{leaf_end, HasBraces, HasRoomFor, HasTask, HaveTask, IsInList, IsPlaceable}
+use Rattle.markdown_plain.specs.Closable.{IsInText, IsLastInText, IsLeafOpen, IsWhiteBefore}
+use Rattle.markdown_plain.specs.Fitting.{GoesOn, OpensHeading, closed, IsAhead, IsWhiteOutside}
 use Rattle.markdown_plain.proofs.DefinitionEndsLemmas.{IsSpanIn, MayCut}
 use Rattle.markdown_plain.proofs.LeafTreesLemmas.{on_test}
 use Rattle.markdown_plain.proofs.OpenBlocksLemmas.{innermost_of_opened, last_apart}
@@ -56,16 +55,12 @@ inside_leaf builder to is none = absurd (is.some none)
 -- a leaf stays open
 pub still_open : (old new : BuilderView) → new.leaf ≡ old.leaf → new.blocks ≡ old.blocks → IsLeafOpen old
     → IsLeafOpen new
-still_open old new leaf blocks is = record {
-  leaf = leaf ∙ is.leaf;
-  some = λ none. is.some (sym blocks ∙ none);
-}
+still_open old new leaf blocks is = record { leaf = cc; some = λ none. is.some (cc) }
 
 -- a byte offset is ahead of where a builder is now
 pub ahead_of : (text : List ℕ) (at to : ℕ) (builder : BuilderView) → builder.text ≡ text → builder.at ≡ at → at ≤ to
     → IsCharBoundary text to → IsAhead builder to
-ahead_of text at to builder same here low boundary =
-    (omega (arith, here, low), subst (λ t. IsCharBoundary t to) (sym same) boundary)
+ahead_of text at to builder same here low boundary = (omega (arith, here, low), rw same boundary)
 
 -- ---- a task marker
 
@@ -86,45 +81,37 @@ pub record IsPastTask (text : List ℕ) (line : HeldLine) : Type 0 where
   pub marker : IsCharBoundary text (line.start + 3)
   pub rest : IsCharBoundary text (line.start + task_length (slice_range text line.start line.stop))
 
-task_space_at : (bytes : List ℕ) (k : ℕ) → 3 ≤ k → k < task_length bytes
-    → is_task_space (get_or bytes k 0) ≡ true
+task_space_at : (bytes : List ℕ) (k : ℕ) → 3 ≤ k → k < task_length bytes → is_task_space (get_or bytes k 0) ≡ true
 task_space_at bytes k low less =
     let place : 3 + (k - 3) ≡ k = omega (arith, low) in
-    ap (λ n. is_task_space (get_or bytes n 0)) (sym place) ∙ (ap is_task_space (sym (get_or-drop 3 bytes (k - 3) 0))
-    ∙ prefix_len_passes is_task_space (drop 3 bytes) (k - 3) 0 (omega (arith, low, less)))
+    let there = get_or-drop 3 bytes (k - 3) 0 in
+    let passes = prefix_len_passes is_task_space (drop 3 bytes) (k - 3) 0 (omega (arith, low, less)) in
+    rw place at (rw there at passes)
 
 some_space : (bytes : List ℕ) → 4 ≤ length bytes → is_task_space (slice_index bytes 3) ≡ true
     → 0 < prefix_len is_task_space (drop 3 bytes)
 some_space (a ∷ b ∷ c ∷ d ∷ bytes) long e = rw e (omega arith)
-some_space [] long e = absurd (omega (arith, long))
-some_space (a ∷ []) long e = absurd (omega (arith, long))
-some_space (a ∷ b ∷ []) long e = absurd (omega (arith, long))
-some_space (a ∷ b ∷ c ∷ []) long e = absurd (omega (arith, long))
+some_space bytes long e = absurd (omega (arith, long))
 
 pub past_task : (text : List ℕ) (line : HeldLine) (done : Bool) → IsUtf8 text → IsInText text line
     → task_marker (slice_range text line.start line.stop) ≡ Some done → IsPastTask text line
 past_task text line done utf8 is e =
     let bytes = slice_range text line.start line.stop in
     let n = task_length bytes in
-    let parted = has_parted bytes done e in
     let inside = marker_within bytes done e in
     let size = range_length text line.start line.stop is.stop.0 in
-    let some = some_space bytes inside.0 parted in
-    let high = is.stop.0 in
-    let long = inside.0 in
-    let most = inside.1 in
-    let ordered = is.content in
+    let some = some_space bytes inside.0 (has_parted bytes done e) in
     let byte : (k : ℕ) → 3 ≤ k → k < n → get_or text (line.start + k) 0 < 128 = λ k low less.
-    subst (λ b. b < 128) (range_byte text line.start line.stop k (omega (arith, less, most, size)))
+    rw (range_byte text line.start line.stop k (omega (arith, less, inside, size))) at
     (small_space (get_or bytes k 0) (task_space_at bytes k low less)) in
     let last : (line.start + (n - 1)) + 1 ≡ line.start + n = omega (arith, some) in
     record {
       three = omega arith;
-      past = omega (arith, most, size, ordered, long);
-      marker = IsCharBoundary-before_ascii text (line.start + 3) (omega (arith, high, long, size, ordered))
+      past = omega (arith, inside, size, is.content);
+      marker = IsCharBoundary-before_ascii text (line.start + 3) (omega (arith, is.stop.0, inside, size, is.content))
           (byte 3 (omega arith) (omega (arith, some)));
-      rest = subst (IsCharBoundary text) last (IsCharBoundary-after_ascii text (line.start + (n - 1)) utf8
-          (omega (arith, high, long, most, some, size, ordered))
+      rest = rw last at (IsCharBoundary-after_ascii text (line.start + (n - 1)) utf8
+          (omega (arith, is.stop.0, inside, some, size, is.content))
           (byte (n - 1) (omega (arith, some)) (omega (arith, some))));
     }
 
@@ -133,14 +120,8 @@ pub rest_in_text : (text : List ℕ) (line : HeldLine) (start : ℕ) → IsInTex
     → start ≡ line.start + task_length (slice_range text line.start line.stop)
     → IsInText text (record line { start = start })
 rest_in_text text line start is past e =
-    let end = past.past in
-    record {
-      content = omega (arith, e, end);
-      ending = is.ending;
-      start = subst (IsCharBoundary text) (sym e) past.rest;
-      stop = is.stop;
-      next = is.next;
-    }
+    let content : start ≤ line.stop = omega (arith, e, past.past) in
+    let boundary : IsCharBoundary text start = rw e past.rest in assumption (content, boundary)
 
 -- ---- the end of a line
 
@@ -155,57 +136,52 @@ pub record IsBreakIn (text : List ℕ) (from stop : ℕ) (between : LineBreak) :
 pub break_in : (text : List ℕ) (from stop : ℕ) (between : LineBreak) → IsCharBoundary text stop → from ≤ stop
     → IsLineBreak text from stop between → IsBreakIn text from stop between
 break_in text from stop between boundary ordered is =
-    subst (IsBreakIn text from stop) (sym is.value)
-    (on_test (IsBreakIn text from stop) ((stop - is.backslashes) % 2 == 1)
+    rw is.value (on_test (IsBreakIn text from stop) ((stop - is.backslashes) % 2 == 1)
     (record { text_end = stop - 1; start = stop - 1; body = body.HardBreak true }) _
     (λ odd.
-    let low = is.backslash_run.low in
     let some : is.backslashes < stop = odd_some stop is.backslashes odd in
     let slash = is.backslash_run.passes (stop - 1) (omega (arith, some)) (omega (arith, some)) in
-    let cut = IsCharBoundary-before_ascii text (stop - 1) (omega (arith, boundary.0, some)) (small_slash _ slash) in
-    record { low = omega (arith, low, some); ordered = omega arith; high = omega arith; end = cut; start = cut })
-    (λ even.
-    let low = is.content_run.low in
-    let high = is.content_run.high in
-    let most = is.space_run.high in
-    on_test (IsBreakIn text from stop) (nat_lt (stop - is.spaces) 2)
+    let cut = IsCharBoundary-before_ascii text (stop - 1) (omega (arith, boundary.0, some))
+    (grind (arith, nat_tests, slash)) in
+    record {
+      low = omega (arith, is.backslash_run.low, some);
+      ordered = omega arith;
+      high = omega arith;
+      end = cut;
+      start = cut;
+    })
+    (λ even. on_test (IsBreakIn text from stop) (nat_lt (stop - is.spaces) 2)
     (record { text_end = is.content; start = stop; body = body.SoftBreak })
     (record { text_end = is.content; start = is.spaces; body = body.HardBreak false })
     (λ few. record {
-      low = low;
-      ordered = omega (arith, high, most);
+      low = is.content_run.low;
+      ordered = omega (arith, is.content_run.high, is.space_run.high);
       high = omega arith;
       end = is.content_run.boundary;
       start = boundary;
     })
     (λ many. record {
-      low = low;
-      ordered = high;
-      high = most;
+      low = is.content_run.low;
+      ordered = is.content_run.high;
+      high = is.space_run.high;
       end = is.content_run.boundary;
       start = is.space_run.boundary;
     })))
   where
     odd_some : (stop from : ℕ) → ((stop - from) % 2 == 1) ≡ true → from < stop
-    odd_some stop from odd = ⊎_elim (λ (less : from < stop). less)
-        (λ (most : stop ≤ from).
+    odd_some stop from odd = ⊎_elim (λ (less : from < stop). less) (λ (most : stop ≤ from).
         let none : stop - from ≡ 0 = omega (arith, most) in
-        absurd (true≢false (sym odd ∙ ap (λ n. n % 2 == 1) none)))
-        (cases_lt from stop)
-
-    small_slash : (byte : ℕ) → (byte == backslash) ≡ true → byte < 128
-    small_slash byte e = grind (arith, nat_tests, e)
+        absurd (true≢false (sym (rw none at odd)))) (cases_lt from stop)
 
 -- the bytes at the end pass the test of the run there
 pub end_passes : (test : ℕ → Bool) (bytes : List ℕ) (k : ℕ) → length bytes - suffix_len test bytes ≤ k
-    → k < length bytes
-    → test (get_or bytes k 0) ≡ true
+    → k < length bytes → test (get_or bytes k 0) ≡ true
 end_passes test bytes k low less =
     let back = length bytes - 1 - k in
     let place : length bytes - 1 - back ≡ k = omega (arith, less) in
-    ap (λ n. test (get_or bytes n 0)) (sym place)
-    ∙ (ap test (sym (get_or-reverse bytes back 0 (omega (arith, less))))
-    ∙ prefix_len_passes test (reverse bytes) back 0 (omega (arith, low, less)))
+    let there = get_or-reverse bytes back 0 (omega (arith, less)) in
+    let passes = prefix_len_passes test (reverse bytes) back 0 (omega (arith, low, less)) in
+    rw place at (rw there at passes)
 
 -- where a line ends without the white space at its end
 pub record IsTrimmed (text : List ℕ) (line : HeldLine) (end : ℕ) : Type 0 where
@@ -215,29 +191,22 @@ pub record IsTrimmed (text : List ℕ) (line : HeldLine) (end : ℕ) : Type 0 wh
 
 pub trimmed : (text : List ℕ) (line : HeldLine) (n : ℕ) → IsLastInText text line
     → n ≡ length (slice_range text line.start line.stop)
-    - suffix_len is_space_or_tab (slice_range text line.start line.stop)
-    → IsTrimmed text line (line.start + n)
+    - suffix_len is_space_or_tab (slice_range text line.start line.stop) → IsTrimmed text line (line.start + n)
 trimmed text line n is e =
     let bytes = slice_range text line.start line.stop in
     let size : length bytes ≡ line.stop - line.start = range_length text line.start line.stop is.stop.0 in
-    let begins = is.begins in
-    let ending = is.ending in
-    let first = is.start.0 in
-    let last = is.stop.0 in
     record {
       low = omega arith;
-      high = omega (arith, e, size, begins, ending);
+      high = omega (arith, e, size, is.begins, is.ending);
       boundary = ⊎_elim (λ (less : n < length bytes).
           let space = end_passes is_space_or_tab bytes n (omega (arith, e)) less in
           let byte = range_byte text line.start line.stop n (omega (arith, less, size)) in
-          IsCharBoundary-before_ascii text (line.start + n) (omega (arith, less, size, last))
-          (small_white (get_or text (line.start + n) 0) (ap is_space_or_tab (sym byte) ∙ space)))
+          IsCharBoundary-before_ascii text (line.start + n) (omega (arith, less, size, is.stop.0))
+          (small_white (get_or text (line.start + n) 0) (rw byte at space)))
           (λ (all : length bytes ≤ n). ⊎_elim (λ (less : line.stop < line.start).
           subst (IsCharBoundary text) (omega (arith, e, size, less)) is.start)
-          (λ (more : line.start ≤ line.stop).
-          subst (IsCharBoundary text) (omega (arith, e, all, size, more)) is.stop)
-          (cases_lt line.stop line.start))
-          (cases_lt n (length bytes));
+          (λ (more : line.start ≤ line.stop). subst (IsCharBoundary text) (omega (arith, e, all, size, more)) is.stop)
+          (cases_lt line.stop line.start)) (cases_lt n (length bytes));
     }
   where
     small_white : (byte : ℕ) → is_space_or_tab byte ≡ true → byte < 128
@@ -247,37 +216,25 @@ trimmed text line n is e =
 
 last_in_text : (text : List ℕ) (line : HeldLine) → IsInText text line → IsLastInText text line
 last_in_text text line is =
-    let content = is.content in
-    let ending = is.ending in
-    record {
-      begins = omega (arith, content, ending);
-      ending = ending;
-      start = is.start;
-      stop = is.stop;
-      next = is.next;
-    }
+    let begins : line.start ≤ line.next = omega (arith, is.content, is.ending) in assumption (begins)
 
 -- braces are in what follows a task marker
 braces_of_rest : (text : List ℕ) (line rest : HeldLine) (braces : Option Braces) → rest.stop ≡ line.stop
     → HasBraces text braces line → HasBraces text braces rest
 braces_of_rest text line rest None same has = tt
-braces_of_rest text line rest (Some braces) same has = let within = has.0 in (omega (arith, within, same), has.1)
+braces_of_rest text line rest (Some braces) same has = (omega (arith, has.0, same), has.1)
 
 cut_in_text : (text : List ℕ) (line : HeldLine) (braces : Option Braces) → IsInText text line
     → HasBraces text braces line
     → IsLastInText text (record line { stop = option_map_or (λ braces. braces.opening) braces line.stop })
 cut_in_text text line None is has = last_in_text text line is
-cut_in_text text line (Some braces) is has =
-    let content = is.content in
-    let ending = is.ending in
-    let within = has.0 in
-    record {
-      begins = omega (arith, content, ending);
-      ending = omega (arith, within, ending);
-      start = is.start;
-      stop = has.1;
-      next = is.next;
-    }
+cut_in_text text line (Some braces) is has = record {
+  begins = omega (arith, is.content, is.ending);
+  ending = omega (arith, has.0, is.ending);
+  start = is.start;
+  stop = has.1;
+  next = is.next;
+}
 
 -- ---- one line after another
 
@@ -297,8 +254,7 @@ line_at text from task [] n other less are has = absurd (omega (arith, less))
 line_at text from task (line ∷ lines) zero other less are has =
     record { there = refl; low = are.0; is = are.1.0; marked = has; rest = are.1.1 }
 line_at text from task (line ∷ lines) (suc n) other less are has =
-    let found = line_at text from task lines n other (omega (arith, less)) are has in
-    record { there = found.there; low = found.low; is = found.is; marked = found.marked; rest = found.rest }
+    let found = line_at text from task lines n other (omega (arith, less)) are has in assumption (found)
 
 -- the last line, without its task marker and its braces
 pub last_cut : (builder : BuilderView) (lines : List HeldLine) (n : ℕ) (ends : Ends) (line rest cut : HeldLine)
@@ -307,9 +263,8 @@ pub last_cut : (builder : BuilderView) (lines : List HeldLine) (n : ℕ) (ends :
     → cut ≡ record rest { stop = option_map_or (λ braces. braces.opening) ends.braces rest.stop }
     → IsLastInText builder.text cut
 last_cut builder lines n ends line rest cut last there room same is e =
-    subst (IsLastInText builder.text) (sym e) (cut_in_text builder.text rest ends.braces is
-    (braces_of_rest builder.text line rest ends.braces same
-    (room.braces line (subst (λ k. slice_get lines k ≡ Some line) last there))))
+    rw e (cut_in_text builder.text rest ends.braces is
+    (braces_of_rest builder.text line rest ends.braces same (room.braces line (rw last at there))))
 
 -- there is room for the lines after a line that was appended
 pub room_after : (old new : BuilderView) (lines : List HeldLine) (n : ℕ) (ends : Ends) (other : HeldLine) (next : ℕ)
@@ -317,18 +272,13 @@ pub room_after : (old new : BuilderView) (lines : List HeldLine) (n : ℕ) (ends
     → HasRoomFor new lines (n + 1) (record ends { task = None })
 room_after old new lines n ends other next less room e goes =
     let t = line_at old.text old.at ends.task lines n other less room.order room.task in
-    let same : new.text ≡ old.text = ap (λ (b : BuilderView). b.text) goes in
-    let at : new.at ≡ (get_or lines n other).next = ap (λ (b : BuilderView). b.at) goes ∙ e in
     let one : suc n ≡ n + 1 = omega arith in
-    record {
-      inside = still_open old new (ap (λ (b : BuilderView). b.leaf) goes) (ap (λ (b : BuilderView). b.blocks) goes)
-          room.inside;
-      order = subst (λ k. AreInText new.text new.at (drop k lines)) one
-          (subst (λ text. AreInText text new.at (drop (suc n) lines)) (sym same)
-          (subst (λ k. AreInText old.text k (drop (suc n) lines)) (sym at) t.rest));
-      task = no_task new.text (drop (n + 1) lines);
-      braces = λ line there. subst (λ text. HasBraces text ends.braces line) (sym same) (room.braces line there);
-    }
+    rw goes (record {
+      inside = still_open old _ refl refl room.inside;
+      order = rw (← one, e) t.rest;
+      task = no_task old.text (drop (n + 1) lines);
+      braces = room.braces;
+    })
   where
     no_task : (text : List ℕ) (lines : List HeldLine) → HaveTask text None lines
     no_task text [] = tt
@@ -338,8 +288,7 @@ room_after old new lines n ends other next less room e goes =
 
 -- blocks inside others are some
 never_none : (outer : List OpenBlock) (block : OpenBlock) → outer ++ block ∷ [] ≡ [] → ⊥
-never_none [] block e = absurd (omega (arith, ap length e))
-never_none (first ∷ outer) block e = absurd (omega (arith, ap length e))
+never_none outer block e = absurd (omega (arith, ap length e, length-append outer (block ∷ [])))
 
 -- the leaf of a text was opened, which is no row
 pub record IsTextOpened (old new : BuilderView) : Type 0 where
@@ -351,27 +300,18 @@ pub record IsTextOpened (old new : BuilderView) : Type 0 where
 opened_as : (old new : BuilderView) (b : ItemBody) → is_leaf b ≡ true → is_table_row b ≡ false → new.text ≡ old.text
     → new.at ≡ old.at → new.leaf ≡ is_leaf b → new.blocks ≡ old.blocks ++ record { start = old.at; body = b } ∷ []
     → IsTextOpened old new
-opened_as old new b leaf row text at now blocks =
-    let block : OpenBlock = record { start = old.at; body = b } in
-    record {
-      text = text;
-      at = at;
-      inside = record { leaf = now ∙ leaf; some = λ none. never_none old.blocks block (sym blocks ∙ none) };
-      other = ap is_in_row blocks
-          ∙ (ap (λ found. option_map_or (λ (block : OpenBlock). is_table_row block.body) found false)
-          (innermost_of_opened old.blocks block) ∙ row);
-    }
+opened_as old new b leaf row text at now blocks = record {
+  text = text;
+  at = at;
+  inside = record { leaf = now ∙ leaf; some = λ none. never_none old.blocks _ (sym blocks ∙ none) };
+  other = rw (blocks, innermost_of_opened) row;
+}
 
 pub text_opened : (old new : BuilderView) (heading : Option (HeadingLevel × Line))
     → MatchOption heading (Opens old new body.Paragraph) (λ h. OpensHeading old new h.0) → IsTextOpened old new
-text_opened old new None opens =
-    opened_as old new body.Paragraph refl refl (ap (λ (b : BuilderView). b.text) opens)
-    (ap (λ (b : BuilderView). b.at) opens) (ap (λ (b : BuilderView). b.leaf) opens)
-    (ap (λ (b : BuilderView). b.blocks) opens)
+text_opened old new None opens = rw opens (opened_as old _ body.Paragraph refl refl refl refl refl refl)
 text_opened old new (Some heading) opens =
-    opened_as old new (body.Heading heading.0 opens.0) refl refl (ap (λ (b : BuilderView). b.text) opens.1)
-    (ap (λ (b : BuilderView). b.at) opens.1) (ap (λ (b : BuilderView). b.leaf) opens.1)
-    (ap (λ (b : BuilderView). b.blocks) opens.1)
+    rw opens.1 (opened_as old _ (body.Heading heading.0 opens.0) refl refl refl refl refl refl)
 
 -- the first of the lines that are placed, and the lines from it on
 pub record IsFirstLine (pass : Pass) (from : ℕ) (line : HeldLine) : Type 0 where
@@ -400,11 +340,9 @@ first_line pass from heading line is held =
     let t = line_at builder.text builder.at _ lines from line is.some is.ahead.order is.task in
     let here = ap (λ (l : HeldLine). l.start) held in
     record {
-      ahead = subst (IsAhead builder) (sym here) (t.low, t.is.start);
-      white = λ none. subst (AllPass is_in_blank_line builder.text builder.at) (sym here)
-          (first_apart builder.text builder.at lines from line is.some (is.ahead.apart none));
-      order = subst (λ at. AreInText builder.text at (drop from lines)) (sym here)
-          (first_cut builder.text builder.at lines from line is.some is.ahead.order);
+      ahead = rw here (t.low, t.is.start);
+      white = λ none. rw here (first_apart builder.text builder.at lines from line is.some (is.ahead.apart none));
+      order = rw here (first_cut builder.text builder.at lines from line is.some is.ahead.order);
     }
 
 -- ---- closing blocks
@@ -424,7 +362,7 @@ containers_apart (first ∷ outer) block are = let rest = containers_apart outer
 
 no_quote_apart : (outer : List OpenBlock) (block : OpenBlock) → has_quote outer ≡ false → is_quote block.body ≡ false
     → has_quote (outer ++ block ∷ []) ≡ false
-no_quote_apart [] block none other = ap (λ q. q || false) other
+no_quote_apart [] block none other = rw other refl
 no_quote_apart (first ∷ outer) block none other =
     neither (is_quote first.body) (has_quote outer) (has_quote (outer ++ block ∷ [])) none
     (λ rest. no_quote_apart outer block rest other)
@@ -438,10 +376,8 @@ innermost_no_row [] are = refl
 innermost_no_row (first ∷ blocks) are =
     let p = last_apart (first ∷ blocks) (λ none. absurd (omega (arith, ap length none))) in
     let outer = outer_of (first ∷ blocks) in
-    ap is_in_row p.is
-    ∙ (ap (λ found. option_map_or (λ (block : OpenBlock). is_table_row block.body) found false)
-    (innermost_of_opened outer p.block)
-    ∙ container_no_row p.block.body (containers_apart outer p.block (subst AreContainers p.is are)).1)
+    ap is_in_row p.is ∙ rw (innermost_of_opened outer p.block)
+    (container_no_row p.block.body (containers_apart outer p.block (subst AreContainers p.is are)).1)
 
 pub closed_here : (old new : BuilderView) (placed : ℕ) (levels : List (Forest Shown)) → AreClosable old placed
     → (old.blocks ≡ [] → ⊥)
@@ -450,28 +386,19 @@ pub closed_here : (old new : BuilderView) (placed : ℕ) (levels : List (Forest 
 closed_here old new placed levels is some e =
     let p = last_apart old.blocks some in
     let outer = outer_of old.blocks in
-    let now : new.blocks ≡ outer = ap (λ (b : BuilderView). b.blocks) e in
     let apart = containers_apart outer p.block (subst AreContainers p.is is.containers) in
     let inner : innermost_is is_quote old.blocks ≡ is_quote p.block.body =
-    ap (innermost_is is_quote) p.is ∙ ap
-    (λ found. option_map_or (λ (block : OpenBlock). is_quote block.body) found false)
-    (innermost_of_opened outer p.block) in
-    let at = ap (λ (b : BuilderView). b.at) e in
-    let text = ap (λ (b : BuilderView). b.text) e in
-    record {
-      outside = ap (λ (b : BuilderView). b.leaf) e;
-      containers = subst AreContainers (sym now) apart.0;
-      low = subst (λ n. n ≤ placed) (sym at)
-          (on_test (λ n. n ≤ placed) (innermost_is is_quote old.blocks) placed old.at (λ quote. omega arith)
-          (λ other. is.low));
-      boundary = subst (λ t. IsCharBoundary t placed) (sym text) is.boundary;
-      white = λ none. subst (λ t. AllPass is_in_blank_line t new.at placed) (sym text)
-          (subst (λ n. AllPass is_in_blank_line old.text n placed) (sym at)
-          (on_test (λ n. AllPass is_in_blank_line old.text n placed) (innermost_is is_quote old.blocks) placed old.at
-          (λ quote k low high. absurd (omega (arith, low, high)))
-          (λ other. is.white (ap has_quote p.is
-          ∙ no_quote_apart outer p.block (ap has_quote (sym now) ∙ none) (sym inner ∙ other)))));
-    }
+    ap (innermost_is is_quote) p.is ∙ rw (innermost_of_opened outer p.block) refl in
+    rw e (record {
+      outside = refl;
+      containers = apart.0;
+      low = on_test (λ n. n ≤ placed) (innermost_is is_quote old.blocks) placed old.at (λ quote. omega arith)
+          (λ other. is.low);
+      boundary = is.boundary;
+      white = λ none. on_test (λ n. AllPass is_in_blank_line old.text n placed) (innermost_is is_quote old.blocks)
+          placed old.at (λ quote k low high. absurd (omega (arith, low, high)))
+          (λ other. is.white (ap has_quote p.is ∙ no_quote_apart outer p.block none (sym inner ∙ other)));
+    })
 
 -- ---- opening items
 
@@ -499,11 +426,8 @@ no_quote_left (first ∷ blocks) none =
     on_test (λ bs. bs ≡ [] → has_quote all ≡ false) (innermost_is is_list all) (outer_of all) all
     (λ list e.
     let last : innermost_is is_quote all ≡ is_quote p.block.body =
-    ap (innermost_is is_quote) p.is ∙ ap
-    (λ found. option_map_or (λ (block : OpenBlock). is_quote block.body) found false)
-    (innermost_of_opened (outer_of all) p.block) in
-    ap has_quote p.is ∙ no_quote_apart (outer_of all) p.block (ap has_quote e)
-    (sym last ∙ innermost_no_quote all list))
+    ap (innermost_is is_quote) p.is ∙ rw (innermost_of_opened (outer_of all) p.block) refl in
+    ap has_quote p.is ∙ no_quote_apart (outer_of all) p.block (ap has_quote e) (sym last ∙ innermost_no_quote all list))
     (λ other e. absurd (some e)) none
 
 -- white space up to a byte offset, and from there on
@@ -515,12 +439,11 @@ white_both text from mid to first second at low high =
 -- the byte offset of a marker is ahead once blocks were closed, and in the list that was opened then
 pub item_ahead : (old new : BuilderView) (placed at : ℕ) → new.text ≡ old.text → AreClosable new placed → placed ≤ at
     → IsCharBoundary old.text at → IsAhead new at
-item_ahead old new placed at text is low boundary =
-    let here = is.low in (omega (arith, here, low), subst (λ t. IsCharBoundary t at) (sym text) boundary)
+item_ahead old new placed at text is low boundary = (omega (arith, is.low, low), rw text boundary)
 
 pub listed_ahead : (old new : BuilderView) (at : ℕ) → new.text ≡ old.text → IsCharBoundary old.text at → IsInList new at
     → IsAhead new at
-listed_ahead old new at text boundary is = (is.low, subst (λ t. IsCharBoundary t at) (sym text) boundary)
+listed_ahead old new at text boundary is = (is.low, rw text boundary)
 
 pub item_white : (old new : BuilderView) (placed at depth : ℕ) → new.text ≡ old.text
     → new.blocks ≡ take depth (without_leaf old) → AreClosable new placed
@@ -528,7 +451,7 @@ pub item_white : (old new : BuilderView) (placed at depth : ℕ) → new.text �
     → without_list new.blocks ≡ [] → IsWhiteBefore new at
 item_white old new placed at depth text blocks is white none =
     white_both new.text new.at placed at (is.white (no_quote_left new.blocks none))
-    (subst (λ t. AllPass is_in_blank_line t placed at) (sym text) (white (sym (ap without_list blocks) ∙ none)))
+    (rw text (white (sym (ap without_list blocks) ∙ none)))
 
 -- where no list is open, and nothing else either
 pub item_outside : (blocks : List OpenBlock) → innermost_is is_list blocks ≡ false → without_list blocks ≡ []
@@ -553,21 +476,16 @@ line_there : (text : List ℕ) (from : ℕ) (lines : List HeldLine) (n : ℕ) (l
     → slice_get lines n ≡ Some line → IsThere text from lines n line
 line_there text from [] n line are there = cc
 line_there text from (first ∷ lines) zero line are there =
-    subst (IsThere text from (first ∷ lines) 0) (same_Some first line there)
-    (record { low = are.0; is = are.1.0; rest = are.1.1 })
+    rw (← same_Some first line there) (record { low = are.0; is = are.1.0; rest = are.1.1 })
 line_there text from (first ∷ lines) (suc n) line are there =
     let found = line_there text first.next lines n line are.1.1 there in
-    let low = are.0 in
-    let content = are.1.0.content in
-    let ending = are.1.0.ending in
-    let further = found.low in
-    record { low = omega (arith, low, content, ending, further); is = found.is; rest = found.rest }
+    let low : from ≤ line.start = omega (arith, are.0, are.1.0.content, are.1.0.ending, found.low) in
+    assumption (low, found)
 
 apart_there : (text : List ℕ) (from : ℕ) (lines : List HeldLine) (n : ℕ) (line : HeldLine) → AreApart text from lines
     → slice_get lines n ≡ Some line → AreApart text line.next (drop (suc n) lines)
 apart_there text from [] n line are there = cc
-apart_there text from (first ∷ lines) zero line are there =
-    subst (λ (l : HeldLine). AreApart text l.next lines) (same_Some first line there) are.1.1
+apart_there text from (first ∷ lines) zero line are there = rw (← same_Some first line there) are.1.1
 apart_there text from (first ∷ lines) (suc n) line are there = apart_there text first.next lines n line are.1.1 there
 
 -- lines with something left of each may be a paragraph
@@ -575,9 +493,8 @@ held_paragraph : (text : List ℕ) (from : ℕ) (lines : List HeldLine) → AreH
     → AreInParagraph text lines
 held_paragraph text from [] held = tt
 held_paragraph text from (line ∷ lines) held =
-    let some = held.1.0.some in
-    let other : (line.start == line.stop) ≡ false = grind (arith, nat_tests, some) in
-    subst (λ (empty : Bool). AreInOrder empty text line lines) (sym other) (omega arith, held.1)
+    let other : (line.start == line.stop) ≡ false = grind (arith, nat_tests, held.1.0.some) in
+    rw other (omega arith, held.1)
 
 paragraph_after : (text : List ℕ) (lines : List HeldLine) (n : ℕ) (line : HeldLine) → AreInParagraph text lines
     → slice_get lines n ≡ Some line → AreInParagraph text (drop (suc n) lines)
@@ -597,17 +514,11 @@ paragraph_after text (first ∷ lines) n line is there = in_order (first.start =
 pub ahead_after : (old new : BuilderView) (lines : List HeldLine) (n : ℕ) (line : HeldLine) → AreAhead old lines
     → slice_get lines n ≡ Some line → new.text ≡ old.text → new.blocks ≡ old.blocks → new.at ≡ line.next
     → AreAhead new (drop (suc n) lines)
-ahead_after old new lines n line is there text blocks at =
-    record {
-      inside = subst (λ t. AreInParagraph t (drop (suc n) lines)) (sym text)
-          (paragraph_after old.text lines n line is.inside there);
-      order = subst (λ t. AreInText t new.at (drop (suc n) lines)) (sym text)
-          (subst (λ k. AreInText old.text k (drop (suc n) lines)) (sym at)
-          (line_there old.text old.at lines n line is.order there).rest);
-      apart = λ none. subst (λ t. AreApart t new.at (drop (suc n) lines)) (sym text)
-          (subst (λ k. AreApart old.text k (drop (suc n) lines)) (sym at)
-          (apart_there old.text old.at lines n line (is.apart (sym blocks ∙ none)) there));
-    }
+ahead_after old new lines n line is there text blocks at = record {
+  inside = rw text (paragraph_after old.text lines n line is.inside there);
+  order = rw (text, at) (line_there old.text old.at lines n line is.order there).rest;
+  apart = λ none. rw (text, at) (apart_there old.text old.at lines n line (is.apart (sym blocks ∙ none)) there);
+}
 
 -- the calls that take an empty line
 pub record MayPass (builder : BuilderView) (line : HeldLine) : Type 0 where
@@ -618,20 +529,13 @@ pub may_pass : (builder : BuilderView) (lines : List HeldLine) (line : HeldLine)
     → slice_get lines 0 ≡ Some line → line.start ≡ line.stop → MayPass builder line
 may_pass builder [] line is there empty = cc
 may_pass builder (first ∷ lines) line is there empty =
-    subst (MayPass builder) (same_Some first line there) (record {
-      ahead = (
-        (let low = is.order.0 in
-            let content = is.order.1.0.content in
-            let ending = is.order.1.0.ending in
-            omega (arith, low, content, ending)),
-        is.order.1.0.next,
-      );
+    let here = same_Some first line there in
+    rw (← here) (record {
+      ahead = (omega (arith, is.order.0, is.order.1.0.content, is.order.1.0.ending), is.order.1.0.next);
       white = λ none.
           let apart = is.apart none in
-          let same : first.start ≡ first.stop =
-          subst (λ (l : HeldLine). l.start ≡ l.stop) (sym (same_Some first line there)) empty in
-          white_both builder.text builder.at first.start first.next apart.0
-          (subst (λ k. AllPass is_in_blank_line builder.text k first.next) (sym same) apart.1.0);
+          let same : first.start ≡ first.stop = rw here empty in
+          white_both builder.text builder.at first.start first.next apart.0 (rw same apart.1.0);
     })
 
 -- the calls that take a definition
@@ -649,15 +553,12 @@ pub may_define : (builder : BuilderView) (lines : List HeldLine) (first : HeldLi
     → MayDefine builder first span.line end
 may_define builder [] first end count is there span = cc
 may_define builder (head ∷ lines) first end count is there span =
-    subst (λ (l : HeldLine). MayDefine builder l span.line end) (same_Some head first there) (
     let line = line_there builder.text head.start (head ∷ lines) span.number span.line
     (omega arith, is.order.1) span.there in
-    let low = line.low in
-    let from = span.ends.low in
-    record {
+    rw (← same_Some head first there) (record {
       ahead = (is.order.0, is.order.1.0.start);
       white = λ none. (is.apart none).0;
-      low = omega (arith, low, from);
+      low = omega (arith, line.low, span.ends.low);
       boundary = span.ends.boundary;
       high = span.ends.high;
       next = line.is.next;
@@ -667,74 +568,31 @@ may_define builder (head ∷ lines) first end count is there span =
 pub last_next : (lines : List HeldLine) (n count : ℕ) (line other : HeldLine) → count ≡ suc n
     → slice_get lines n ≡ Some line → (get_or lines (count - 1) other).next ≡ line.next
 last_next lines n count line other is there =
-    ap (λ k. (get_or lines k other).next) (omega (arith, is)) ∙ found lines n there
+    let at : count - 1 ≡ n = omega (arith, is) in rw at (found lines n there)
   where
     found : (lines : List HeldLine) (n : ℕ) → slice_get lines n ≡ Some line → (get_or lines n other).next ≡ line.next
     found [] n there = cc
-    found (first ∷ lines) zero there = ap (λ (l : HeldLine). l.next) (same_Some first line there)
+    found (first ∷ lines) zero there = cc
     found (first ∷ lines) (suc n) there = found lines n there
 
 -- only white space is ahead of where a builder is now
 pub white_ahead : (text : List ℕ) (at to : ℕ) (builder : BuilderView) → builder.text ≡ text → builder.at ≡ at
     → AllPass is_in_blank_line text at to → IsWhiteOutside builder to
-white_ahead text at to builder same here white = λ none.
-    subst (λ t. AllPass is_in_blank_line t builder.at to) (sym same)
-    (subst (λ k. AllPass is_in_blank_line text k to) (sym here) white)
+white_ahead text at to builder same here white = λ none. rw (same, here) white
 
 -- ---- where no lines are held back
 
 -- no paragraph is
 pub no_paragraph : (pass : Pass) → pass.lines.items ≡ [] → has_paragraph pass ≡ false
-no_paragraph pass none =
-    ap (λ (lines : List HeldLine). not pass.placing.builder.leaf && not (length lines == 0)) none
-    ∙ and-false (not pass.placing.builder.leaf)
+no_paragraph pass none = rw (none, and-false) refl
 
 -- the open leaf ends where the builder is
 pub leaf_end_here : (pass : Pass) → pass.lines.items ≡ [] → leaf_end pass ≡ pass.placing.builder.at
-leaf_end_here pass none =
-    ap (λ (has : Bool). if has then lines_end pass.lines.items else pass.placing.builder.at) (no_paragraph pass none)
+leaf_end_here pass none = rw (no_paragraph pass none) refl
 
 -- without lines there are none ahead, and no task marker
 pub none_ahead : (builder : BuilderView) (lines : List HeldLine) → lines ≡ [] → AreAhead builder lines
-none_ahead builder lines none =
-    subst (AreAhead builder) (sym none) (record { inside = tt; order = tt; apart = λ outside. tt })
+none_ahead builder lines none = rw none (record { inside = tt; order = tt; apart = λ outside. tt })
 
 pub no_task : (text : List ℕ) (task : Option Bool) (lines : List HeldLine) → lines ≡ [] → HaveTask text task lines
-no_task text task lines none = subst (HaveTask text task) (sym none) tt
-
--- ---- a paragraph of definitions alone
-
-pub ended_definitions : (old new : Pass) (definitions : List Definition) → IsClosable old → has_paragraph old ≡ true
-    → new.lines.items ≡ [] → new.placed ≡ old.placed
-    → new.placing.builder ≡ defining old.placing.builder definitions (lines_end old.lines.items) → IsClosable new
-ended_definitions old new definitions is has none placed e =
-    let was = old.placing.builder in
-    let now = new.placing.builder in
-    let text : now.text ≡ was.text = ap (λ (b : BuilderView). b.text) e in
-    let leaf : now.leaf ≡ was.leaf = ap (λ (b : BuilderView). b.leaf) e in
-    let blocks : now.blocks ≡ was.blocks = ap (λ (b : BuilderView). b.blocks) e in
-    let inner : without_leaf now ≡ without_leaf was = ap without_leaf e in
-    let end : leaf_end new ≡ leaf_end old =
-    leaf_end_here new none
-    ∙ (ap (λ (b : BuilderView). b.at) e
-    ∙ sym (ap (λ (t : Bool). if t then lines_end old.lines.items else was.at) has)) in
-    record {
-      some = λ inside empty. is.some (sym leaf ∙ inside) (sym blocks ∙ empty);
-      other = ap is_in_row blocks ∙ is.other;
-      held = λ outside. none_ahead now new.lines.items none;
-      task = no_task now.text new.task new.lines.items none;
-      containers = subst AreContainers (sym inner) is.containers;
-      alone = λ held. absurd (true≢false (sym held ∙ no_paragraph new none));
-      low = subst (λ n. n ≤ new.placed) (sym end) (subst (λ n. leaf_end old ≤ n) (sym placed) is.low);
-      boundary = subst (λ t. IsCharBoundary t new.placed) (sym text)
-          (subst (IsCharBoundary was.text) (sym placed) is.boundary);
-      white = λ quotes. subst (λ t. AllPass is_in_blank_line t (leaf_end new) new.placed) (sym text)
-          (subst (λ n. AllPass is_in_blank_line was.text n new.placed) (sym end)
-          (subst (AllPass is_in_blank_line was.text (leaf_end old)) (sym placed)
-          (is.white (ap has_quote (sym inner) ∙ quotes))));
-    }
-
-pub some_held : (pass : Pass) → has_paragraph pass ≡ true → 0 < length pass.lines.items
-some_held pass has =
-    let some = (and_parts (not pass.placing.builder.leaf) (not (length pass.lines.items == 0)) has).1 in
-    grind (arith, nat_tests, some)
+no_task text task lines none = rw none tt

@@ -1,8 +1,6 @@
 -- Open containers that are closed: the blocks are the same.
-use Rattle.std.proofs.Common.{◌≡◌, ◌∙◌, ℕ, zero, suc, ◌-◌, ◌<◌, ◌≤◌, Bool, true, false, List, [], ◌∷◌, ◌++◌, Some}
-use Rattle.std.proofs.Common.{None, append-nil, not, true≢false, length, length-append, take, drop, length-take-le}
-use Rattle.std.proofs.Common.{take_all, refl, sym, ap, arith}
-use Rattle.std.proofs.lemmas.List.{drop_all}
+use Rattle.std.proofs.Common.{◌≡◌, ◌∙◌, ℕ, zero, suc, ◌-◌, ◌<◌, ◌≤◌, Bool, true, false, List, [], ◌∷◌, ◌++◌, Some, None}
+use Rattle.std.proofs.Common.{not, true≢false, length, take, drop, length-take-le, refl, sym, ap, arith}
 use Rattle.std.specs.Prelude.{if◌then◌else◌}
 use Rattle.std.specs.Option.{option_map}
 use Rattle.std.proofs.lemmas.Option.{same_Some}
@@ -26,10 +24,11 @@ use Rattle.markdown_plain.specs.Frames.{AreNested, Frame, forgotten, innermost_i
 use Rattle.markdown_plain.specs.Frames.{room_depth}
 use Rattle.markdown_plain.specs.OpenBlocks as blocks
 use Rattle.markdown_plain.specs.OpenBlocks.{outer_of}
-use Rattle.markdown_plain.specs.Settled.{AreOpen, IsBodyOf, IsOpen, QuotesEnd, are_loose, around_in}
-use Rattle.markdown_plain.specs.Settled.{levels_shown, placed_end}
-use Rattle.markdown_plain.proofs.FramesLemmas.{rebuilt_more}
-use Rattle.markdown_plain.proofs.LeafTreesLemmas.{closed_tree, get_last, same_block}
+use Rattle.markdown_plain.specs.Settled.{AreOpen, IsBodyOf, IsLooseAs, IsOpen, QuotesEnd, around_in, levels_shown}
+use Rattle.markdown_plain.specs.Settled.{placed_end}
+use Rattle.markdown_plain.proofs.FramesInsideLemmas.{list_alike, list_of_open, quote_alike}
+use Rattle.markdown_plain.proofs.FramesLemmas.{outer_nested, rebuilt_more}
+use Rattle.markdown_plain.proofs.LeafTreesLemmas.{closed_tree, same_block}
 use Rattle.markdown_plain.proofs.OpenBlocksLemmas.{innermost_of_opened, outer_of_these}
 use Rattle.markdown_plain.proofs.TightBlocksLemmas.{items_made_tight}
 
@@ -54,8 +53,7 @@ pub shown_of_both : (s : Source) (around : Around) (f g : Forest Block)
     → shown_blocks s around (followed_by f g) ≡ followed_by (shown_blocks s around f) (shown_blocks s around g)
 unfolding shown_blocks
 shown_of_both s around nil g = refl
-shown_of_both s around (node b below after) g =
-    rw (shown_of_both s around after g, followed_by-assoc)
+shown_of_both s around (node b below after) g = rw (shown_of_both s around after g, followed_by-assoc)
 
 -- in an open container no list is tight yet
 pub none_tight : (b : Block) (kind : Kind) → (around_in b kind).tight ≡ false
@@ -90,8 +88,7 @@ levels_grown s around (g ∷ h ∷ frames) f inside new loose is =
     cc (levels_grown s (around_in g.block g.block.kind) (h ∷ frames) f inside new (none_tight g.block g.block.kind) is)
 
 levels_closed : (s : Source) (frames : List Frame) (f : Frame) (inside : Forest Block) (a : Shown)
-    → IsClosedItem s f inside a
-    → with_block (levels_shown s in_no_item (frames ++ f ∷ []) inside) a
+    → IsClosedItem s f inside a → with_block (levels_shown s in_no_item (frames ++ f ∷ []) inside) a
     ≡ levels_shown s in_no_item frames (forgotten f inside)
 levels_closed s frames f inside a is =
     rw (levels_parted, closed_tree _ _ a (some_level s in_no_item frames f.before))
@@ -117,8 +114,7 @@ IsShownClosed s parts around b inside kind opened =
     ≡ followed_by (shown_block s around b end inside (λ inner. shown_blocks s inner inside) kind) nil
 
 list_shown : (s : Source) (start end character first : ℕ) (inside : Forest Block)
-    → AreItemsInLists true inside → (loose : Bool)
-    → shown_over start end (body.List (not loose) character first) None
+    → AreItemsInLists true inside → (loose : Bool) → shown_over start end (body.List (not loose) character first) None
     (settled_below (plain_item start end (body.List (not loose) character first)) (shown_blocks s in_no_item inside))
     ≡ shown_over start end (body.List (not loose) character first) None
     (shown_blocks s (record { tight = not loose; marked = 0 }) inside)
@@ -151,8 +147,7 @@ end_inside before (g ∷ frames) f inside = end_inside g.block.first frames f in
 
 -- once it is closed, the one around it ends where it does
 end_closed : (before : ℕ) (frames : List Frame) (f : Frame) (inside : Forest Block)
-    → is_blank_block f.block.kind ≡ false
-    → placed_end before frames (forgotten f inside)
+    → is_blank_block f.block.kind ≡ false → placed_end before frames (forgotten f inside)
     ≡ block_end f.block (last_end f.block.first inside) f.block.kind
 end_closed before [] f inside some = rw (end_of_both before f.before (node f.block inside nil), some)
 end_closed before (g ∷ frames) f inside some = end_closed g.block.first frames f inside some
@@ -164,11 +159,6 @@ quotes_outside to (g ∷ frames) f ends =
     let others = quotes_outside to frames f ends.1 in ((ends.0, others.0), others.1)
 
 -- ---- open blocks
-
-nested_outside : (frames : List Frame) (f : Frame) → AreNested (frames ++ f ∷ []) → AreNested frames
-nested_outside [] f nested = tt
-nested_outside (g ∷ []) f nested = tt
-nested_outside (g ∷ h ∷ frames) f nested = (nested.0, nested_outside (h ∷ frames) f nested.1)
 
 -- the innermost of some open containers, and those outside it
 pub record IsOpenInside (texts : List (List ℕ)) (blocks : List OpenBlock) (frames : List Frame) (f : Frame)
@@ -182,13 +172,8 @@ pub record IsOpenInside (texts : List (List ℕ)) (blocks : List OpenBlock) (fra
 innermost_open : (texts : List (List ℕ)) (blocks : List OpenBlock) (frames : List Frame) (f : Frame)
     → AreOpen texts blocks (frames ++ f ∷ []) → IsOpenInside texts blocks frames f
 innermost_open texts [] [] f are = absurd are
-innermost_open texts (block ∷ []) [] f are = record {
-  block = block;
-  outer = [];
-  is = refl;
-  opened = are.0;
-  outside = tt;
-}
+innermost_open texts (block ∷ []) [] f are =
+    record { block = block; outer = []; is = refl; opened = are.0; outside = tt }
 innermost_open texts (block ∷ other ∷ blocks) [] f are = absurd are.1
 innermost_open texts [] (g ∷ frames) f are = absurd are
 innermost_open texts (block ∷ blocks) (g ∷ frames) f are =
@@ -198,10 +183,7 @@ innermost_open texts (block ∷ blocks) (g ∷ frames) f are =
       outer = block ∷ last.outer;
       is = cc;
       opened = last.opened;
-      outside = (
-        are.0,
-        last.outside,
-      );
+      outside = (are.0, last.outside);
     }
 
 pub as_many_open : (texts : List (List ℕ)) (blocks : List OpenBlock) (frames : List Frame) → AreOpen texts blocks frames
@@ -211,39 +193,12 @@ as_many_open texts [] (f ∷ frames) are = absurd are
 as_many_open texts (block ∷ blocks) [] are = absurd are
 as_many_open texts (block ∷ blocks) (f ∷ frames) are = ap suc (as_many_open texts blocks frames are.1)
 
--- ---- loose lists
-
--- whether the innermost open container is loose, where it is a list
-abbrev own_looseness : Frame → Forest Block → List Bool
-own_looseness f inside = if is_list f.block.kind then is_loose inside ∷ [] else []
-
-loose_parted : (frames : List Frame) (f : Frame) (inside : Forest Block)
-    → are_loose (frames ++ f ∷ []) inside ≡ are_loose frames (forgotten f inside) ++ own_looseness f inside
-loose_parted [] f inside = refl
-loose_parted (g ∷ frames) f inside =
-    by_kind (is_list g.block.kind) _ _ _ _ (ap is_loose (rebuilt_more frames f inside)) (loose_parted frames f inside)
-  where
-    by_kind : (test before after : Bool) (flags others : List Bool) → before ≡ after
-        → flags ≡ others ++ own_looseness f inside
-        → (if test then before ∷ flags else flags)
-        ≡ (if test then after ∷ others else others) ++ own_looseness f inside
-    by_kind true before after flags others same more = cc
-    by_kind false before after flags others same more = more
-
 -- ---- one container closed
 
--- tests of a container's kind are those of its block's body
-abbrev AreAlike : Kind → ItemBody → Type 0
-AreAlike kind block = (is_list kind ≡ blocks.is_list block) × (is_quote kind ≡ blocks.is_quote block)
-    × (is_blank_block kind ≡ false)
-
-are_alike : (texts : List (List ℕ)) (kind : Kind) (block : ItemBody) → IsBodyOf texts kind block → AreAlike kind block
-are_alike texts was.quote_container block is = rw is (refl, refl, refl)
-are_alike texts (was.alert_container kind) block is = rw is (refl, refl, refl)
-are_alike texts (was.list_container marker) block is = rw is (refl, refl, refl)
-are_alike texts (was.item_container indent) block is = rw is (refl, refl, refl)
-are_alike texts (was.footnote_container label) block is = rw is.1 (refl, refl, refl)
-are_alike texts other block is = absurd is
+no_blank : (texts : List (List ℕ)) (kind : Kind) (block : ItemBody) → IsBodyOf texts kind block
+    → is_blank_block kind ≡ false
+no_blank texts was.blank_line block is = absurd is
+no_blank texts other block is = refl
 
 -- where a container ends that is no block quote, and one that is
 ends_inside : (texts : List (List ℕ)) (kind : Kind) (block : ItemBody) → IsBodyOf texts kind block
@@ -269,8 +224,6 @@ pub record IsClosed (old new : Pass) (f : Frame) (inside : Forest Block) (block 
   pub levels : new.placing.builder.levels ≡ with_block old.placing.builder.levels
       (closed_as (parts_of old.placing.builder) block new.placing.builder.at (is_loose inside))
   pub placed : new.placed ≡ old.placed
-  pub lists : (outer : List Bool) → old.looseness.lists.items ≡ outer ++ own_looseness f inside
-      → new.looseness.lists.items ≡ outer
 
 closed_item : (s : Source) (f : Frame) (inside : Forest Block) (parts : Parts) (block : OpenBlock) (end : ℕ)
     → IsOpen parts.texts block f → AreItemsInLists (is_list f.block.kind) inside
@@ -285,36 +238,31 @@ closed_item s f inside parts block end opened items ends around loose =
 forget : (s : Source) (old new : Pass) (frames : List Frame) (f : Frame) (inside : Forest Block)
     → MayClose s old (frames ++ f ∷ []) inside
     → (last : IsOpenInside old.placing.builder.texts old.placing.builder.blocks frames f)
-    → IsClosed old new f inside last.block → MayClose s new frames (forgotten f inside)
-forget s old new frames f inside may last is =
+    → IsClosed old new f inside last.block → IsLooseAs new.looseness frames (forgotten f inside)
+    → MayClose s new frames (forgotten f inside)
+forget s old new frames f inside may last is loose =
     let before = old.placing.builder in
     let built = may.stands.built in
     let same = rebuilt_more frames f inside in
     let outer = outer_of_these before.blocks last.outer last.block last.is in
     let item = closed_item s f inside (parts_of before) last.block new.placing.builder.at last.opened
     (items_inside false frames f inside may.stands.items) is.at in
-    let blocks : AreOpen new.placing.builder.texts new.placing.builder.blocks frames = rw (
-      is.builder,
-      outer,
-    ) last.outside in
-    let ends = end_closed 0 frames f inside (are_alike before.texts f.block.kind last.block.body last.opened.body).2 in
-    let quotes : QuotesEnd new.placed frames = rw is.placed
-    (quotes_outside old.placed frames f may.stands.ends.quotes).0 in
+    let ends = end_closed 0 frames f inside (no_blank before.texts f.block.kind last.block.body last.opened.body) in
     record {
       stands = record {
         built = record {
           text = cc;
-          blocks = blocks;
-          nested = nested_outside frames f built.nested;
+          blocks = rw (is.builder, outer) last.outside;
+          nested = outer_nested frames (f ∷ []) built.nested;
           outside = cc;
           levels = rw (is.levels, built.levels) (levels_closed s frames f inside _ item);
           definitions = rw (is.builder, ← same) built.definitions;
           footnotes = rw (is.builder, ← same) built.footnotes;
         };
-        ends = record { at = cc; quotes = quotes };
+        ends = record { at = cc; quotes = rw is.placed (quotes_outside old.placed frames f may.stands.ends.quotes).0 };
         items = rw (← same) may.stands.items;
       };
-      lists = is.lists (are_loose frames (forgotten f inside)) (may.lists ∙ loose_parted frames f inside);
+      loose = loose;
     }
 
 -- ---- how the pass closes one
@@ -341,8 +289,9 @@ pub record ClosesList (old new : Pass) (character first : ℕ) : Type 0 where
   pub settles : HasBody old.placing.builder settled (body.List (not loose) character first)
   pub closes : new.placing.builder ≡ closed old.placing.builder new.placing.builder.levels
   pub puts : PutsBlock settled new.placing.builder
-  pub decides : (outer : List Bool) (last : Bool) → old.looseness.lists.items ≡ outer ++ last ∷ []
-      → (loose ≡ last) × (new.looseness.lists.items ≡ outer)
+  pub decides : (frames : List Frame) (f : Frame) (inside : Forest Block) → is_list f.block.kind ≡ true
+      → IsLooseAs old.looseness (frames ++ f ∷ []) inside
+      → (loose ≡ is_loose inside) × IsLooseAs new.looseness frames (forgotten f inside)
   pub placed : new.placed ≡ old.placed
 
 -- another container is closed at a byte offset
@@ -350,7 +299,9 @@ pub record ClosesOther (old new : Pass) (to : ℕ) : Type 0 where
   pub other : blocks.innermost_is blocks.is_list old.placing.builder.blocks ≡ false
   pub closes : new.placing.builder ≡ closed (stepped old.placing.builder to) new.placing.builder.levels
   pub puts : PutsBlock (stepped old.placing.builder to) new.placing.builder
-  pub looseness : new.looseness ≡ old.looseness
+  pub loose : (frames : List Frame) (f : Frame) (inside : Forest Block) → is_list f.block.kind ≡ false
+      → AreNested (frames ++ f ∷ []) → IsLooseAs old.looseness (frames ++ f ∷ []) inside
+      → IsLooseAs new.looseness frames (forgotten f inside)
   pub placed : new.placed ≡ old.placed
 
 -- what is no list is closed with the body that it has
@@ -358,44 +309,34 @@ body_stays : (loose : Bool) (block : ItemBody) → blocks.is_list block ≡ fals
 body_stays loose (body.List tight character first) other = absurd (true≢false other)
 body_stays loose block other = refl
 
-other_closed : (s : Source) (old new : Pass) (to : ℕ) (frames : List Frame) (f : Frame) (inside : Forest Block)
-    → (may : MayClose s old (frames ++ f ∷ []) inside) → ClosesOther old new to
-    → to ≡ block_end f.block (last_end f.block.first inside) f.block.kind
-    → IsClosed old new f inside (last_open s old frames f inside may.stands).block
-other_closed s old new to frames f inside may closes ends =
-    let before = old.placing.builder in
-    let last = last_open s old frames f inside may.stands in
-    let unlisted = sym (innermost_test blocks.is_list before.blocks last.outer last.block last.is) ∙ closes.other in
-    let alike = (are_alike before.texts f.block.kind last.block.body last.opened.body).0 ∙ unlisted in
-    let stays = body_stays (is_loose inside) last.block.body unlisted in
-    let put = same_block before.blocks (outer_of before.blocks) last.outer closes.puts.block last.block closes.puts.was
-    last.is in
-    let at = ap (λ (b : BuilderView). b.at) closes.closes in
-    record {
-      builder = closes.closes ∙ ap (λ n. record (closed before new.placing.builder.levels) { at = n }) (sym at);
-      at = at ∙ ends;
-      levels = rw (stays, at, ← put) closes.puts.levels;
-      placed = closes.placed;
-      lists = λ outer is. rw (closes.looseness, is, alike) (append-nil outer);
-    }
+-- tests of the innermost container's kind are those of its block's body
+innermost_alike : (s : Source) (pass : Pass) (frames : List Frame) (f : Frame) (inside : Forest Block)
+    → StandsFor s pass (frames ++ f ∷ []) inside
+    → (is_list f.block.kind ≡ blocks.innermost_is blocks.is_list pass.placing.builder.blocks)
+    × (is_quote f.block.kind ≡ blocks.innermost_is blocks.is_quote pass.placing.builder.blocks)
+innermost_alike s pass frames f inside stands =
+    let last = last_open s pass frames f inside stands in
+    let test = λ (of : ItemBody → Bool). innermost_test of pass.placing.builder.blocks last.outer last.block last.is in
+    let alike = quote_alike _ _ _ last.opened.body in
+    (cc (list_alike _ _ _ last.opened.body, test blocks.is_list), cc (alike, test blocks.is_quote))
 
-list_closed : (s : Source) (old new : Pass) (character first : ℕ) (frames : List Frame) (f : Frame)
-    (inside : Forest Block) → (may : MayClose s old (frames ++ f ∷ []) inside) → ClosesList old new character first
-    → IsClosed old new f inside (last_open s old frames f inside may.stands).block
-list_closed s old new character first frames f inside may closes =
+-- the pass closes a list
+pub list_forgotten : (s : Source) (old new : Pass) (character first : ℕ) (frames : List Frame) (f : Frame)
+    (inside : Forest Block) → MayClose s old (frames ++ f ∷ []) inside → ClosesList old new character first
+    → MayClose s new frames (forgotten f inside)
+list_forgotten s old new character first frames f inside may closes =
     let before = old.placing.builder in
     let last = last_open s old frames f inside may.stands in
     let is_body : last.block.body ≡ body.List closes.tight character first =
     same_Some _ _ (sym (ap (option_map (λ b. b.body)) (ap innermost_block last.is
     ∙ innermost_of_opened last.outer last.block)) ∙ closes.innermost) in
-    let alike = are_alike before.texts f.block.kind last.block.body last.opened.body in
-    let listed : is_list f.block.kind ≡ true = alike.0 ∙ ap blocks.is_list is_body in
-    let quoted : is_quote f.block.kind ≡ false = alike.1 ∙ ap blocks.is_quote is_body in
+    let listed : is_list f.block.kind ≡ true = sym (list_alike _ _ _ last.opened.body) ∙ ap blocks.is_list is_body in
+    let quoted : is_quote f.block.kind ≡ false =
+    sym (quote_alike _ _ _ last.opened.body) ∙ ap blocks.is_quote is_body in
     let ends = ends_inside before.texts f.block.kind last.block.body last.opened.body quoted f.block
     (last_end f.block.first inside) in
-    let decided = λ (outer : List Bool) (is : old.looseness.lists.items ≡ outer ++ own_looseness f inside).
-    closes.decides outer (is_loose inside) (rw listed at is) in
-    let loose = (decided (are_loose frames (forgotten f inside)) (may.lists ∙ loose_parted frames f inside)).0 in
+    let decided = closes.decides frames f inside listed may.loose in
+    let loose = decided.0 in
     let is_closed = ap (closed_body (is_loose inside)) is_body in
     let put = same_block closes.settled.blocks (outer_of closes.settled.blocks) (outer_of before.blocks)
     closes.puts.block (record closes.settles.block { body = body.List (not closes.loose) character first })
@@ -403,23 +344,33 @@ list_closed s old new character first frames f inside may closes =
     let was = same_block before.blocks (outer_of before.blocks) last.outer closes.settles.block last.block
     closes.settles.was last.is in
     let at = ap (λ (b : BuilderView). b.at) closes.closes in
-    record {
+    forget s old new frames f inside may last (record {
       builder = closes.closes ∙ ap (λ n. record (closed before new.placing.builder.levels) { at = n }) (sym at);
-      at = at ∙ (may.stands.ends.at ∙ (end_inside 0 frames f inside ∙ sym ends));
+      at = cc (at, may.stands.ends.at, end_inside 0 frames f inside, ends);
       levels = closes.puts.levels ∙ (ap (λ (b : BuilderView). with_block b.levels (shown_item (parts_of b)
           (record { start = closes.puts.block.start; end = b.at; body = closes.puts.block.body }))) closes.same
           ∙ rw (put, was, loose, at, is_closed));
       placed = closes.placed;
-      lists = λ outer is. (decided outer is).1;
-    }
+    }) decided.1
 
--- the pass closes a list
-pub list_forgotten : (s : Source) (old new : Pass) (character first : ℕ) (frames : List Frame) (f : Frame)
-    (inside : Forest Block) → MayClose s old (frames ++ f ∷ []) inside → ClosesList old new character first
-    → MayClose s new frames (forgotten f inside)
-list_forgotten s old new character first frames f inside may closes =
-    forget s old new frames f inside may (last_open s old frames f inside may.stands)
-    (list_closed s old new character first frames f inside may closes)
+-- another container is closed, where it ends
+other_forgotten : (s : Source) (old new : Pass) (to : ℕ) (frames : List Frame) (f : Frame) (inside : Forest Block)
+    → MayClose s old (frames ++ f ∷ []) inside → ClosesOther old new to
+    → to ≡ block_end f.block (last_end f.block.first inside) f.block.kind → MayClose s new frames (forgotten f inside)
+other_forgotten s old new to frames f inside may closes ends =
+    let before = old.placing.builder in
+    let last = last_open s old frames f inside may.stands in
+    let unlisted = (innermost_alike s old frames f inside may.stands).0 ∙ closes.other in
+    let stays = body_stays (is_loose inside) last.block.body (list_alike _ _ _ last.opened.body ∙ unlisted) in
+    let put = same_block before.blocks (outer_of before.blocks) last.outer closes.puts.block last.block closes.puts.was
+    last.is in
+    let at = ap (λ (b : BuilderView). b.at) closes.closes in
+    forget s old new frames f inside may last (record {
+      builder = closes.closes ∙ ap (λ n. record (closed before new.placing.builder.levels) { at = n }) (sym at);
+      at = at ∙ ends;
+      levels = rw (stays, at, ← put) closes.puts.levels;
+      placed = closes.placed;
+    }) (closes.loose frames f inside unlisted may.stands.built.nested may.loose)
 
 -- the pass closes a block quote, after its last line
 pub quote_forgotten : (s : Source) (old new : Pass) (frames : List Frame) (f : Frame) (inside : Forest Block)
@@ -427,33 +378,25 @@ pub quote_forgotten : (s : Source) (old new : Pass) (frames : List Frame) (f : F
     → blocks.innermost_is blocks.is_quote old.placing.builder.blocks ≡ true → ClosesOther old new old.placed
     → MayClose s new frames (forgotten f inside)
 quote_forgotten s old new frames f inside may quote closes =
-    let before = old.placing.builder in
-    let last = last_open s old frames f inside may.stands in
-    let alike = are_alike before.texts f.block.kind last.block.body last.opened.body in
-    let quoted : is_quote f.block.kind ≡ true =
-    cc (alike.1, innermost_test blocks.is_quote before.blocks last.outer last.block last.is) in
+    let quoted = (innermost_alike s old frames f inside may.stands).1 ∙ quote in
     let ends = (quotes_outside old.placed frames f may.stands.ends.quotes).1 quoted in
-    forget s old new frames f inside may last (other_closed s old new old.placed frames f inside may closes
-    (cc (ends, ends_itself f.block.kind quoted f.block (last_end f.block.first inside))))
+    other_forgotten s old new old.placed frames f inside may closes
+    (cc (ends, ends_itself f.block.kind quoted f.block (last_end f.block.first inside)))
 
 -- the pass closes an item or a footnote definition
-pub other_forgotten : (s : Source) (old new : Pass) (frames : List Frame) (f : Frame) (inside : Forest Block)
-    → MayClose s old (frames ++ f ∷ []) inside
-    → blocks.innermost_is blocks.is_quote old.placing.builder.blocks ≡ false
+pub plain_forgotten : (s : Source) (old new : Pass) (frames : List Frame) (f : Frame) (inside : Forest Block)
+    → MayClose s old (frames ++ f ∷ []) inside → blocks.innermost_is blocks.is_quote old.placing.builder.blocks ≡ false
     → ClosesOther old new old.placing.builder.at → MayClose s new frames (forgotten f inside)
-other_forgotten s old new frames f inside may other closes =
+plain_forgotten s old new frames f inside may other closes =
     let before = old.placing.builder in
     let last = last_open s old frames f inside may.stands in
-    let alike = are_alike before.texts f.block.kind last.block.body last.opened.body in
-    let unquoted : is_quote f.block.kind ≡ false =
-    cc (alike.1, innermost_test blocks.is_quote before.blocks last.outer last.block last.is) in
-    forget s old new frames f inside may last (other_closed s old new before.at frames f inside may closes
-    (cc (
+    let unquoted = (innermost_alike s old frames f inside may.stands).1 ∙ other in
+    other_forgotten s old new before.at frames f inside may closes (cc (
       may.stands.ends.at,
       end_inside 0 frames f inside,
       ends_inside before.texts f.block.kind last.block.body last.opened.body unquoted f.block
           (last_end f.block.first inside),
-    )))
+    ))
 
 -- ---- more containers closed
 
@@ -476,6 +419,12 @@ kept_within (suc n) [] as_many = omega (arith, as_many)
 kept_within (suc n) (f ∷ frames) as_many =
     let others = kept_within n frames (omega (arith, as_many)) in omega (arith, others)
 
+-- as many are open as there are
+pub open_containers : (s : Source) (pass : Pass) (frames : List Frame) (inside : Forest Block)
+    → MayClose s pass frames inside → length pass.placing.builder.blocks ≡ length frames
+open_containers s pass frames inside may =
+    as_many_open pass.placing.builder.texts pass.placing.builder.blocks frames may.stands.built.blocks
+
 -- the innermost of these containers is closed by a step of the pass
 pub one_less : (s : Source) (old new : Pass) (frames : List Frame) (inside : Forest Block) (n m : ℕ)
     → n ≡ length old.placing.builder.blocks → suc m ≡ n
@@ -483,100 +432,35 @@ pub one_less : (s : Source) (old new : Pass) (frames : List Frame) (inside : For
     → ((outer : List Frame) (f : Frame) (below : Forest Block) → MayClose s old (outer ++ f ∷ []) below
     → MayClose s new outer (forgotten f below)) → MayClose s new (take m frames) (rebuilt (drop m frames) inside)
 one_less s old new frames inside n m number less may forgets =
-    let many = as_many_open old.placing.builder.texts old.placing.builder.blocks
-    (take n frames) may.stands.built.blocks in
-    let within = kept_within n frames (number ∙ many) in
+    let within = kept_within n frames (number ∙ open_containers s old (take n frames) _ may) in
     let last = last_kept m frames (omega (arith, within, less)) in
-    rw last.dropped (forgets (take m frames) last.f (rebuilt (drop (suc m) frames) inside) (rw (
-      ← last.taken,
-      less,
-    ) may))
-
--- as many are open as there are
-pub open_containers : (s : Source) (pass : Pass) (frames : List Frame) (inside : Forest Block)
-    → MayClose s pass frames inside → length pass.placing.builder.blocks ≡ length frames
-open_containers s pass frames inside may =
-    as_many_open pass.placing.builder.texts pass.placing.builder.blocks frames may.stands.built.blocks
-
--- the outermost are all, if there are no more
-pub kept_alike : (n depth : ℕ) (frames : List Frame) → n ≤ depth → (n < depth → length frames ≤ n)
-    → (take n frames ≡ take depth frames) × (drop n frames ≡ drop depth frames)
-kept_alike n depth [] most least = (
-  take_all n [] (omega arith) ∙ sym (take_all depth [] (omega arith)),
-  drop_all n [] (omega arith) ∙ sym (drop_all depth [] (omega arith)),
-)
-kept_alike zero zero (f ∷ frames) most least = (refl, refl)
-kept_alike zero (suc depth) (f ∷ frames) most least = let none = least (omega arith) in absurd (omega (arith, none))
-kept_alike (suc n) zero (f ∷ frames) most least = absurd (omega (arith, most))
-kept_alike (suc n) (suc depth) (f ∷ frames) most least =
-    let others = kept_alike n depth frames (omega (arith, most)) (λ less. omega (arith, least (omega (arith, less)))) in
-    (cc, others.1)
-
-pub all_kept : (s : Source) (pass : Pass) (frames : List Frame) (inside : Forest Block) (n : ℕ) → n ≡ length frames
-    → MayClose s pass frames inside → MayClose s pass (take n frames) (rebuilt (drop n frames) inside)
-all_kept s pass frames inside n all may =
-    rw (take_all n frames (omega (arith, all)), drop_all n frames (omega (arith, all))) may
+    rw last.dropped (forgets (take m frames) last.f (rebuilt (drop (suc m) frames) inside)
+    (rw (← last.taken, less) may))
 
 -- ---- room for a block
-
--- the innermost open container is a list, by its block or by its frame
-listed_alike : (s : Source) (pass : Pass) (outer : List Frame) (f : Frame) (inside : Forest Block)
-    → StandsFor s pass (outer ++ f ∷ []) inside
-    → innermost_is is_list (outer ++ f ∷ []) ≡ blocks.innermost_is blocks.is_list pass.placing.builder.blocks
-listed_alike s pass outer f inside stands =
-    let builder = pass.placing.builder in
-    let last = last_open s pass outer f inside stands in
-    let alike = are_alike builder.texts f.block.kind last.block.body last.opened.body in
-    let count : length (outer ++ f ∷ []) - 1 ≡ length outer = omega (arith, length-append outer (f ∷ [])) in
-    rw (count, get_last outer f)
-    (cc (alike.0, innermost_test blocks.is_list builder.blocks last.outer last.block last.is))
-
--- the innermost of some open containers that are kept is a list, by its block or by its frame
-kept_list : (s : Source) (pass : Pass) (depth : ℕ) (frames : List Frame) (inside : Forest Block)
-    → depth ≤ length frames → StandsFor s pass (take depth frames) inside
-    → innermost_is is_list (take depth frames) ≡ blocks.innermost_is blocks.is_list pass.placing.builder.blocks
-kept_list s pass zero frames inside few stands = none pass.placing.builder.blocks stands.built.blocks
-  where
-    none : (these : List OpenBlock) → AreOpen pass.placing.builder.texts these []
-        → false ≡ blocks.innermost_is blocks.is_list these
-    none [] are = refl
-    none (block ∷ others) are = absurd are
-kept_list s pass (suc n) frames inside few stands =
-    let last = last_kept n frames (omega (arith, few)) in
-    rw last.taken (listed_alike s pass (take n frames) last.f inside (rw last.taken at stands))
 
 -- no list is in the way
 pub no_list_closed : (s : Source) (pass : Pass) (depth : ℕ) (frames : List Frame) (inside : Forest Block)
     → depth ≤ length frames → MayClose s pass (take depth frames) (rebuilt (drop depth frames) inside)
     → blocks.innermost_is blocks.is_list pass.placing.builder.blocks ≡ false
-    → StandsFor s pass (take (room_depth depth frames) frames)
-    (rebuilt (drop (room_depth depth frames) frames) inside)
+    → MayClose s pass (take (room_depth depth frames) frames) (rebuilt (drop (room_depth depth frames) frames) inside)
 no_list_closed s pass depth frames inside few may other =
-    rw (kept_list s pass depth frames _ few may.stands ∙ other) may.stands
+    rw (sym (list_of_open _ _ (take depth frames) may.stands.built.blocks) ∙ other) may
 
 -- the innermost, which is a list, is closed by a step of the pass
 pub list_in_the_way : (s : Source) (old new : Pass) (depth : ℕ) (frames : List Frame) (inside : Forest Block)
     → depth ≤ length frames → MayClose s old (take depth frames) (rebuilt (drop depth frames) inside)
     → blocks.innermost_is blocks.is_list old.placing.builder.blocks ≡ true
     → ((outer : List Frame) (f : Frame) (below : Forest Block) → MayClose s old (outer ++ f ∷ []) below
-    → MayClose s new outer (forgotten f below)) → StandsFor s new (take (room_depth depth frames) frames)
+    → MayClose s new outer (forgotten f below)) → MayClose s new (take (room_depth depth frames) frames)
     (rebuilt (drop (room_depth depth frames) frames) inside)
 list_in_the_way s old new depth frames inside few may listed forgets =
-    let test = kept_list s old depth frames _ few may.stands ∙ listed in
+    let test : innermost_is is_list (take depth frames) ≡ true =
+    sym (list_of_open _ _ (take depth frames) may.stands.built.blocks) ∙ listed in
     let many = sym (open_containers s old (take depth frames) _ may ∙ length-take-le depth frames few) in
     let some : 0 < depth = some_open depth test in
-    rw test (one_less s old new frames inside depth (depth - 1) many (omega (arith, some)) may forgets).stands
+    rw test (one_less s old new frames inside depth (depth - 1) many (omega (arith, some)) may forgets)
   where
     some_open : (n : ℕ) → innermost_is is_list (take n frames) ≡ true → 0 < n
     some_open zero test = cc (test)
     some_open (suc n) test = omega arith
-
--- it stands for the same blocks where it has the same builder
-pub stands_on : (s : Source) (old new : Pass) (frames : List Frame) (inside : Forest Block)
-    → new.placing ≡ old.placing → new.placed ≡ old.placed → StandsFor s old frames inside
-    → StandsFor s new frames inside
-stands_on s old new frames inside placing placed stands = record {
-  built = rw placing stands.built;
-  ends = record { at = rw placing stands.ends.at; quotes = rw placed stands.ends.quotes };
-  items = stands.items;
-}

@@ -1,7 +1,7 @@
 -- How containers continue, by places in a text and by the rest of the line there.
 use Rattle.std.proofs.Common.{◌≡◌, ℕ, ◌+◌, ◌-◌, ◌<◌, ◌≤◌, List, Some, true, ◌==◌, length, drop, slice_range, codes}
 use Rattle.std.proofs.Common.{refl, sym, ◌∙◌, ap, arith, Bool, false, ◌&&◌, ◌||◌, None, [], ◌∷◌, zero, suc, nat_le}
-use Rattle.std.proofs.Common.{get_or, nat_lt, subst}
+use Rattle.std.proofs.Common.{get_or, nat_lt}
 use Rattle.std.specs.Option.{IfSome}
 use Rattle.std.proofs.Common.{drop-cons}
 use Rattle.std.proofs.lemmas.Bool.Decides.{nat_tests}
@@ -16,8 +16,7 @@ use Rattle.markdown_base.specs.declared.item.ItemBody.TheVariants as body
 use Rattle.markdown_lines.specs.declared.position.Position.{Position}
 use Rattle.markdown_lines.specs.Positions.{left_from}
 use Rattle.markdown_lines.proofs.PositionsLemmas.{rest_of_part}
-use Rattle.markdown_plain.specs.Containers.{Reach, is_container, is_innermost, past_container}
-use Rattle.markdown_plain.specs.Containers.{reach_after, reach_from}
+use Rattle.markdown_plain.specs.Containers.{Reach, is_container, is_innermost, past_container, reach_after, reach_from}
 use Rattle.markdown_plain.proofs.LeafTreesLemmas.{on_test}
 
 -- what is left of a line is the text from there to where the line's content ends
@@ -39,8 +38,7 @@ module _ (text : List ℕ) (stop : ℕ) where
       (λ whole. space_from_up_to (n - space_width column b) (scanned + 1) (column_after column b) bytes next))
 
   space_up_to : (n : ℕ) (left : LineLeft) → IsUpTo text stop left → IsUpTo text stop (leading_space n left).after
-  space_up_to n left is =
-      on_test (λ (s : Space). IsUpTo text stop s.after) (nat_le n left.owed) _ _ (λ owed. is)
+  space_up_to n left is = on_test (λ (s : Space). IsUpTo text stop s.after) (nat_le n left.owed) _ _ (λ owed. is)
       (λ more. space_from_up_to (n - left.owed) left.scanned left.column left.bytes is)
 
   quote_up_to : (left : LineLeft) → IsUpTo text stop left → IfSome (past_quote left) (IsUpTo text stop)
@@ -71,7 +69,8 @@ module _ (text : List ℕ) (stop : ℕ) where
 pub part_reaches : (text : List ℕ) (stop : ℕ) (gfm : Bool) (block : ItemBody) (left after : LineLeft)
     → IsUpTo text stop left → Some after ≡ past_part gfm block left → IsUpTo text stop after
 part_reaches text stop gfm block left after is part =
-    subst (λ o. IfSome o (IsUpTo text stop)) (sym part) (part_up_to text stop gfm block left is)
+    let whole = part_up_to text stop gfm block left is in
+    rw (← part) at whole
 
 -- the place that a reader has reached leaves what the reader does
 pub place_after : (text : List ℕ) (stop : ℕ) (after : LineLeft) (place : Position) → IsUpTo text stop after
@@ -84,64 +83,41 @@ place_after text stop after place own at column owed =
 pub inside_of : (blocks : List OpenBlock) (number : ℕ) (or : OpenBlock) → number < length blocks
     → drop number blocks ≡ get_or blocks number or ∷ drop (number + 1) blocks
 inside_of blocks number or more =
-    let next : suc number ≡ number + 1 = omega arith in
-    drop-cons blocks number or more ∙ ap (λ n. get_or blocks number or ∷ drop n blocks) next
+    let next : number + 1 ≡ suc number = omega arith in
+    rw next (drop-cons blocks number or more)
 
 -- it is the innermost where no number is left
 innermost_at : (blocks : List OpenBlock) (number : ℕ) → number < length blocks
     → is_innermost (drop (number + 1) blocks) ≡ (number + 1 == length blocks)
-innermost_at [] number more = absurd (omega (arith, more))
 innermost_at (block ∷ []) zero more = refl
-innermost_at (block ∷ []) (suc number) more = absurd (omega (arith, more))
 innermost_at (block ∷ inner ∷ blocks) zero more = grind (arith, nat_tests)
 innermost_at (block ∷ inner ∷ blocks) (suc number) more =
-    let inside = innermost_at (inner ∷ blocks) number (omega (arith, more)) in
     let later : suc number + 1 ≡ suc (number + 1) = omega arith in
-    let next : drop (suc number + 1) (block ∷ inner ∷ blocks) ≡ drop (number + 1) (inner ∷ blocks) =
-    ap (λ n. drop n (block ∷ inner ∷ blocks)) later in
-    let same : (suc number + 1 == suc (suc (length blocks))) ≡ (number + 1 == suc (length blocks)) =
+    let same : (suc (number + 1) == suc (suc (length blocks))) ≡ (number + 1 == suc (length blocks)) =
     grind (arith, nat_tests) in
-    ap (λ (b : List OpenBlock). is_innermost b) next ∙ (inside ∙ sym same)
+    rw (later, same) (innermost_at (inner ∷ blocks) number (omega (arith, more)))
+innermost_at blocks number more = absurd (omega (arith, more))
 
 -- no block is left
 pub none_left : (old empty : Bool) (stop : ℕ) (blocks : List OpenBlock) (number : ℕ) (reach : Reach)
     → length blocks ≤ number → reach_from old empty stop (drop number blocks) reach ≡ reach
 unfolding reach_from
-none_left old empty stop blocks number reach all =
-    ap (λ (b : List OpenBlock). reach_from old empty stop b reach) (drop_all number blocks all)
-
--- the next one is a leaf
-leaf_is_reached : (old empty : Bool) (stop : ℕ) (block : OpenBlock) (blocks : List OpenBlock) (reach : Reach)
-    → is_container block.body ≡ false → reach_from old empty stop (block ∷ blocks) reach ≡ reach
-unfolding reach_from
-leaf_is_reached old empty stop block blocks reach leaf = rw leaf refl
+none_left old empty stop blocks number reach all = rw (drop_all number blocks all) refl
 
 pub next_is_leaf : (old empty : Bool) (stop : ℕ) (blocks : List OpenBlock) (number : ℕ) (or : OpenBlock) (reach : Reach)
     → number < length blocks → is_container (get_or blocks number or).body ≡ false
     → reach_from old empty stop (drop number blocks) reach ≡ reach
-next_is_leaf old empty stop blocks number or reach more leaf =
-    ap (λ (b : List OpenBlock). reach_from old empty stop b reach) (inside_of blocks number or more)
-    ∙ leaf_is_reached old empty stop (get_or blocks number or) (drop (number + 1) blocks) reach leaf
-
--- it is a container that does not continue
-container_ends : (old empty last : Bool) (stop : ℕ) (block : OpenBlock) (blocks : List OpenBlock) (reach : Reach)
-    → is_container block.body ≡ true → is_innermost blocks ≡ last
-    → past_container old (last && empty) (nat_le stop reach.content) block.body reach.left ≡ None
-    → reach_from old empty stop (block ∷ blocks) reach ≡ record reach { all = false }
 unfolding reach_from
-container_ends old empty last stop block blocks reach container is none = rw (container, is, none) refl
+next_is_leaf old empty stop blocks number or reach more leaf = rw (inside_of blocks number or more, leaf) refl
 
 pub next_ends : (old empty : Bool) (stop : ℕ) (blocks : List OpenBlock) (number : ℕ) (or : OpenBlock) (reach : Reach)
     → number < length blocks → is_container (get_or blocks number or).body ≡ true
     → past_container old ((number + 1 == length blocks) && empty) (nat_le stop reach.content)
-    (get_or blocks number or).body
-    reach.left ≡ None
+    (get_or blocks number or).body reach.left ≡ None
     → reach_from old empty stop (drop number blocks) reach ≡ record reach { all = false }
+unfolding reach_from
 next_ends old empty stop blocks number or reach more container none =
-    ap (λ (b : List OpenBlock). reach_from old empty stop b reach) (inside_of blocks number or more)
-    ∙ container_ends old empty (number + 1 == length blocks) stop (get_or blocks number or) (drop (number + 1) blocks)
-    reach
-    container (innermost_at blocks number more) none
+    rw (inside_of blocks number or more, container, innermost_at blocks number more, none) refl
 
 -- it continues
 pub container_goes_on : (old empty last : Bool) (stop : ℕ) (block : OpenBlock) (blocks : List OpenBlock) (reach : Reach)
@@ -155,12 +131,8 @@ container_goes_on old empty last stop block blocks reach left container is some 
 pub next_goes_on : (old empty : Bool) (stop : ℕ) (blocks : List OpenBlock) (number : ℕ) (or : OpenBlock) (reach : Reach)
     (left : LineLeft) → number < length blocks → is_container (get_or blocks number or).body ≡ true
     → past_container old ((number + 1 == length blocks) && empty) (nat_le stop reach.content)
-    (get_or blocks number or).body
-    reach.left ≡ Some left
-    → reach_from old empty stop (drop number blocks) reach
+    (get_or blocks number or).body reach.left ≡ Some left → reach_from old empty stop (drop number blocks) reach
     ≡ reach_from old empty stop (drop (number + 1) blocks) (reach_after (get_or blocks number or).body left reach)
-next_goes_on old empty stop blocks number or reach left more container some =
-    ap (λ (b : List OpenBlock). reach_from old empty stop b reach) (inside_of blocks number or more)
-    ∙ container_goes_on old empty (number + 1 == length blocks) stop (get_or blocks number or)
-    (drop (number + 1) blocks)
-    reach left container (innermost_at blocks number more) some
+next_goes_on old empty stop blocks number or reach left more container some = rw (inside_of blocks number or more)
+    (container_goes_on old empty (number + 1 == length blocks) stop (get_or blocks number or)
+    (drop (number + 1) blocks) reach left container (innermost_at blocks number more) some)

@@ -35,15 +35,10 @@ use Rattle.markdown_lines.specs.HeldDefinitions.{IsDefinitionOf}
 use Rattle.markdown_lines.specs.declared.definition.Definition.{Definition}
 use Rattle.markdown_plain.proofs.DividedLemmas.{AreFilled, as_many}
 use Rattle.markdown_plain.proofs.LeafTreesLemmas.{on_test}
-use Rattle.markdown_plain.proofs.ParagraphLinesLemmas.{range_byte, range_length}
+use Rattle.markdown_plain.proofs.ParagraphLinesLemmas.{if_some, range_byte, range_length}
 use Rattle.markdown_plain.specs.HeldSources.{AreTextLines}
 
 -- ---- values that are there
-
-pub some_if : {A : Type 0} (test : Bool) (value : Option A) (a : A) → (if test then value else None) ≡ Some a
-    → (test ≡ true) × (value ≡ Some a)
-some_if true value a e = (refl, e)
-some_if false value a e = absurd (grind (arith, e))
 
 some_unless : {A : Type 0} (test : Bool) (value : Option A) (a : A) → (if test then None else value) ≡ Some a
     → (test ≡ false) × (value ≡ Some a)
@@ -76,9 +71,7 @@ one_more : (value : Option ℕ) (n most : ℕ) → option_map (λ n. 1 + n) valu
     → ((m : ℕ) → value ≡ Some m → m < most) → n < suc most
 one_more value n most e within =
     let found = some_mapped (λ n. 1 + n) value n e in
-    let less = within found.from found.is in
-    let is = found.gives in
-    omega (arith, less, is)
+    omega (arith, within found.from found.is, found.gives)
 
 title_within : (close : ℕ) (escaped : Bool) (bytes : List ℕ) (n : ℕ) → title_length close escaped bytes ≡ Some n
     → n < length bytes
@@ -87,8 +80,7 @@ title_within close escaped (b ∷ bytes) n e =
     on_test (λ (value : Option ℕ). value ≡ Some n → n < suc (length bytes)) (is_bare escaped b close) (Some 0) _
     (λ closes is. let zero_is = same_Some 0 n is in omega (arith, zero_is))
     (λ other. on_test (λ (value : Option ℕ). value ≡ Some n → n < suc (length bytes))
-    (is_bare escaped b 40 && (close == 41)) None _
-    (λ breaks is. absurd (grind (arith, is)))
+    (is_bare escaped b 40 && (close == 41)) None _ (λ breaks is. absurd (grind (arith, is)))
     (λ more is. one_more (title_length close (is_bare escaped b 92) bytes) n (length bytes) is
     (λ m. title_within close (is_bare escaped b 92) bytes m))) e
 
@@ -105,9 +97,8 @@ angle_within escaped (b ∷ bytes) n e =
 -- nothing is left of a destination where it ends
 none_bare : (opened n most : ℕ) → (if opened == 0 then Some 0 else None) ≡ Some n → n ≤ most
 none_bare opened n most e =
-    let found = some_if (opened == 0) (Some 0) n e in
-    let zero_is = same_Some 0 n found.1 in
-    omega (arith, zero_is)
+    let found = if_some (opened == 0) (Some 0) n e in
+    omega (arith, same_Some 0 n found.1)
 
 bare_within : (most : ℕ) (escaped : Bool) (opened : ℕ) (bytes : List ℕ) (n : ℕ)
     → bare_length most escaped opened bytes ≡ Some n → n ≤ length bytes
@@ -116,30 +107,21 @@ bare_within most escaped opened (b ∷ bytes) n e =
     on_test (λ (value : Option ℕ). value ≡ Some n → n ≤ suc (length bytes)) (is_past_bare escaped opened b)
     (end_of_bare opened) _ (λ past is. none_bare opened n (suc (length bytes)) is)
     (λ other. on_test (λ (value : Option ℕ). value ≡ Some n → n ≤ suc (length bytes))
-    (is_too_deep most escaped opened b) None _ (λ deep is. absurd (grind (arith, is)))
-    (λ more is.
+    (is_too_deep most escaped opened b) None _ (λ deep is. absurd (grind (arith, is))) (λ more is.
     let rest = bare_length most (is_bare escaped b 92) (open_after escaped b opened) bytes in
     let found = some_mapped (λ n. 1 + n) rest n is in
     let less = bare_within most (is_bare escaped b 92) (open_after escaped b opened) bytes found.from found.is in
-    let gives = found.gives in
-    omega (arith, less, gives))) e
+    omega (arith, less, found.gives))) e
 
-destination_within : (bytes : List ℕ) (found : ℕ × List ℕ) → destination 32 bytes ≡ Some found
-    → found.0 ≤ length bytes
+destination_within : (bytes : List ℕ) (found : ℕ × List ℕ) → destination 32 bytes ≡ Some found → found.0 ≤ length bytes
 destination_within bytes found e =
     on_test (λ (value : Option (ℕ × List ℕ)). value ≡ Some found → found.0 ≤ length bytes)
-    (slice_index bytes 0 == 60) (angle_destination (drop 1 bytes)) (bare_destination 32 bytes)
-    (λ angle is.
+    (slice_index bytes 0 == 60) (angle_destination (drop 1 bytes)) (bare_destination 32 bytes) (λ angle is.
     let inner = some_mapped (λ (n : ℕ). (n + 2, take n (drop 1 bytes))) (angle_length false (drop 1 bytes)) found is in
     let less = angle_within false (drop 1 bytes) inner.from inner.is in
-    let size = length-drop 1 bytes in
-    let gives = ap (λ (f : ℕ × List ℕ). f.0) inner.gives in
-    omega (arith, less, size, gives))
-    (λ bare is.
+    omega (arith, less, length-drop 1 bytes, ap (λ (f : ℕ × List ℕ). f.0) inner.gives)) (λ bare is.
     let inner = some_mapped (λ (n : ℕ). (n, take n bytes)) (bare_length 32 false 0 bytes) found is in
-    let less = bare_within 32 false 0 bytes inner.from inner.is in
-    let gives = ap (λ (f : ℕ × List ℕ). f.0) inner.gives in
-    omega (arith, less, gives)) e
+    omega (arith, bare_within 32 false 0 bytes inner.from inner.is, ap (λ (f : ℕ × List ℕ). f.0) inner.gives)) e
 
 -- ---- the end of a definition
 
@@ -157,14 +139,12 @@ title_ends bytes tail e =
     (option_and_then (λ close. title_length close false (drop 1 rest)) (closing_mark rest)) tail some.1 in
     let n = length_is.from in
     let closed = some_then (λ close. title_length close false (drop 1 rest)) (closing_mark rest) n length_is.is in
-    let less = title_within closed.from false (drop 1 rest) n closed.gives in
-    let ends = some_if (ends_its_line (drop (n + 2) rest)) _ tail length_is.gives in
+    let ends = if_some (ends_its_line (drop (n + 2) rest)) _ tail length_is.gives in
     let is : before + n + 2 ≡ tail.length = ap (λ (t : Tail). t.length) (same_Some _ tail ends.1) in
-    let size = length-drop 1 rest in
-    let all = length-drop before bytes in
     let sum : before + (n + 2) ≡ tail.length = omega (arith, is) in
     record {
-      within = omega (arith, less, size, all, is);
+      within = let less = title_within closed.from false (drop 1 rest) n closed.gives in
+          omega (arith, less, length-drop 1 rest, length-drop before bytes, is);
       over = ap ends_its_line (ap (λ k. drop k bytes) (sym sum) ∙ sym (drop-drop (n + 2) before bytes)) ∙ ends.0;
     }
 
@@ -175,7 +155,7 @@ tail_ends bytes tail e = from_title (title_tail bytes) refl e
         → option_or title (if ends_its_line bytes then Some (record { length = 0; title = None }) else None) ≡ Some tail
         → EndsLine bytes tail.length
     from_title None was is =
-        let ends = some_if (ends_its_line bytes) _ tail is in
+        let ends = if_some (ends_its_line bytes) _ tail is in
         let none : 0 ≡ tail.length = ap (λ (t : Tail). t.length) (same_Some _ tail ends.1) in
         record {
           within = omega (arith, none);
@@ -198,18 +178,15 @@ destination_ends names label before bytes d e =
     else with_tail names label (before + found.0) found.1 (drop found.0 bytes)) (destination 32 bytes) d e in
     let target = found.from in
     let some = some_unless (target.0 == 0) _ d found.gives in
-    let size = destination_within bytes target found.is in
     let tail = some_mapped _ (tail_of (drop target.0 bytes)) d some.1 in
     let ends = tail_ends (drop target.0 bytes) tail.from tail.is in
-    let within = ends.within in
-    let all = length-drop target.0 bytes in
     let is : before + target.0 + tail.from.length ≡ d.length = ap (λ (d : Defined). d.length) tail.gives in
     let other : 0 < target.0 = grind (arith, nat_tests, some.0) in (
       target.0 + tail.from.length,
       omega (arith, is),
       omega (arith, other),
       record {
-        within = omega (arith, within, all, size);
+        within = omega (arith, ends.within, length-drop target.0 bytes, destination_within bytes target found.is);
         over = ap ends_its_line (sym (drop-drop tail.from.length target.0 bytes)) ∙ ends.over;
       },
     )
@@ -217,24 +194,19 @@ destination_ends names label before bytes d e =
 definition_ends : (names : EntityNames) (bytes : List ℕ) (d : Defined) → definition_in names bytes ≡ Some d
     → IsDefinedIn bytes d.length
 definition_ends names bytes d e =
-    let found = some_if (begins_with (codes "[") bytes)
+    let found = if_some (begins_with (codes "[") bytes)
     (option_and_then (with_label names bytes) (link_label no_prefix false (drop 1 bytes))) d e in
     let labelled = some_then (with_label names bytes) (link_label no_prefix false (drop 1 bytes)) d found.1 in
     let label = labelled.from in
     let rest = drop (label.0 + 1) bytes in
     let before = 1 + separation (drop 1 rest) in
-    let colon = some_if (begins_with (codes ":") rest) _ d labelled.gives in
+    let colon = if_some (begins_with (codes ":") rest) _ d labelled.gives in
     let ends = destination_ends names label.1 (label.0 + 1 + before) (drop before rest) d colon.1 in
     let n = ends.0 in
-    let is = ends.1 in
-    let some = ends.2 in
-    let within = ends.3.within in
-    let first = length-drop before rest in
-    let second = length-drop (label.0 + 1) bytes in
-    let sum : label.0 + 1 + (before + n) ≡ d.length = omega (arith, is) in
+    let sum : label.0 + 1 + (before + n) ≡ d.length = omega (arith, ends.1) in
     record {
-      some = omega (arith, is, some);
-      within = omega (arith, is, some, within, first, second);
+      some = omega (arith, ends.1, ends.2);
+      within = omega (arith, ends.1, ends.2, ends.3.within, length-drop before rest, length-drop (label.0 + 1) bytes);
       over = ap ends_its_line (ap (λ k. drop k bytes) (sym sum) ∙ (sym (drop-drop (before + n) (label.0 + 1) bytes)
           ∙ sym (drop-drop n before rest))) ∙ ends.3.over;
     }
@@ -258,14 +230,11 @@ space_before (b ∷ bytes) k e less none =
         let one : suc (prefix_len is_space_or_tab bytes) ≡ 1 + prefix_len is_space_or_tab bytes = omega arith in
         let rest : ends_its_line bytes ≡ true = ap (λ n. is_line_over (drop n (b ∷ bytes))) one ∙ (
         sym (ap (λ (t : Bool). is_line_over
-        (drop (if t then 1 + prefix_len is_space_or_tab bytes else 0) (b ∷ bytes))) is)
-        ∙ e) in
+        (drop (if t then 1 + prefix_len is_space_or_tab bytes else 0) (b ∷ bytes))) is) ∙ e) in
         again k rest (omega (arith, less)) (λ j most. none (suc j) (omega (arith, most)))
     by_space again false is k less none =
-        let over : is_line_over (b ∷ bytes) ≡ true =
-        sym (ap (λ (t : Bool). is_line_over
-        (drop (if t then 1 + prefix_len is_space_or_tab bytes else 0) (b ∷ bytes))) is)
-        ∙ e in
+        let over : is_line_over (b ∷ bytes) ≡ true = sym (ap (λ (t : Bool). is_line_over
+        (drop (if t then 1 + prefix_len is_space_or_tab bytes else 0) (b ∷ bytes))) is) ∙ e in
         absurd (true≢false (sym over ∙ none 0 (omega arith)))
 
 -- a byte offset in a line, after which there is only white space
@@ -291,18 +260,13 @@ small_blank byte e = grind (arith, nat_tests, e)
 -- what follows so many bytes of a line, where they end it
 end_in_line : (text : List ℕ) (line : HeldLine) (more : List ℕ) (n : ℕ) → IsHeldLine text line
     → IsCharBoundary text line.next → n ≤ line.next - line.start
-    → ends_its_line (drop n (slice_range text line.start line.next ++ more)) ≡ true
-    → IsEndIn text line (line.start + n)
+    → ends_its_line (drop n (slice_range text line.start line.next ++ more)) ≡ true → IsEndIn text line (line.start + n)
 end_in_line text line more n is boundary most over =
     let bounds = bounds_of text line is in
-    let stop = bounds.stop in
-    let next = bounds.next in
     let within = bounds.within in
     let line_bytes = slice_range text line.start line.next in
     let bytes = line_bytes ++ more in
     let size = range_length text line.start line.next within in
-    let whole = length-append line_bytes more in
-    let left = length-drop n bytes in
     let byte : (k : ℕ) → line.start + n + k < line.next
     → get_or (drop n bytes) k 0 ≡ get_or text (line.start + n + k) 0 = λ k less.
     let place : line.start + (n + k) ≡ line.start + n + k = omega arith in
@@ -312,7 +276,8 @@ end_in_line text line more n is boundary most over =
     ⊎_elim (λ (before : at < line.stop).
     let k = at - (line.start + n) in
     let place : line.start + n + k ≡ at = omega (arith, low) in
-    let space = space_before (drop n bytes) k over (omega (arith, left, whole, size, high, low, place))
+    let space = space_before (drop n bytes) k over
+    (omega (arith, length-drop n bytes, length-append line_bytes more, size, high, low, place))
     (λ j few. ap is_line_ending (byte j (omega (arith, few, high, low, place)))
     ∙ is.content.content (line.start + n + j) (omega arith) (omega (arith, few, before, place))) in
     white_byte (get_or text at 0) (ap (λ i. is_space_or_tab (get_or text i 0)) (sym place)
@@ -321,14 +286,12 @@ end_in_line text line more n is boundary most over =
     (cases_lt at line.stop) in
     record {
       low = omega arith;
-      high = omega (arith, most, stop, next);
+      high = omega (arith, most, bounds.stop, bounds.next);
       boundary = ⊎_elim (λ (less : line.start + n < line.next).
           IsCharBoundary-before_ascii text (line.start + n) (omega (arith, less, within))
-          (small_blank _ (white (line.start + n) (omega arith) less)))
-          (λ (end : line.next ≤ line.start + n).
-          let same : line.next ≡ line.start + n = omega (arith, end, most, stop, next) in
-          subst (IsCharBoundary text) same boundary)
-          (cases_lt (line.start + n) line.next);
+          (small_blank _ (white (line.start + n) (omega arith) less))) (λ (end : line.next ≤ line.start + n).
+          let same : line.next ≡ line.start + n = omega (arith, end, most, bounds.stop, bounds.next) in
+          subst (IsCharBoundary text) same boundary) (cases_lt (line.start + n) line.next);
       white = white;
     }
 
@@ -351,9 +314,7 @@ ends_at : (text : List ℕ) (from : ℕ) (lines : List HeldLine) (sources : List
     → AreHeldFrom text from lines → MayCut text lines → AreTextLines text lines sources
     → IsDefinedIn (text_of_lines text sources) n → EndsAt text lines sources n
 ends_at text from [] [] n held cuts are is =
-    let some = is.some in
-    let within = is.within in
-    absurd (omega (arith, some, within))
+    absurd (omega (arith, is.some, is.within))
 ends_at text from [] (source ∷ sources) n held cuts are is = absurd are
 ends_at text from (line ∷ lines) [] n held cuts are is = absurd are
 ends_at text from (line ∷ lines) (source ∷ sources) n held cuts are is =
@@ -382,10 +343,9 @@ ends_at text from (line ∷ lines) (source ∷ sources) n held cuts are is =
 
     here : n ≤ size → EndsAt text (line ∷ lines) (source ∷ sources) n
     here most =
-        let some = is.some in
         let before : nat_le n size ≡ true = grind (arith, nat_tests, most) in
-        let inside : nat_lt (n - 1) size ≡ true = grind (arith, nat_tests, most, some) in
-        let place : line.start + n ≡ (source.left.scanned + (n - 1)) + 1 = omega (arith, some, start) in
+        let inside : nat_lt (n - 1) size ≡ true = grind (arith, nat_tests, most, is.some) in
+        let place : line.start + n ≡ (source.left.scanned + (n - 1)) + 1 = omega (arith, is.some, start) in
         record {
           number = 0;
           line = line;
@@ -393,8 +353,7 @@ ends_at text from (line ∷ lines) (source ∷ sources) n held cuts are is =
           behind = ap (λ t. if t then sources else lines_behind sources (n - size)) before;
           ends = subst (IsEndIn text line) (place
               ∙ ap (λ t. (if t then source.left.scanned + (n - 1) else place_of sources (n - 1 - size)) + 1)
-              (sym inside))
-              (end_in_line text line rest n held.1.0 cuts.0 (omega (arith, most, start, next))
+              (sym inside)) (end_in_line text line rest n held.1.0 cuts.0 (omega (arith, most, start, next))
               (subst (λ k. ends_its_line (drop n (slice_range text k line.next ++ rest)) ≡ true) (sym start)
               (subst (λ k. ends_its_line (drop n (slice_range text source.left.scanned k ++ rest)) ≡ true) (sym next)
               is.over)));
@@ -405,13 +364,11 @@ ends_at text from (line ∷ lines) (source ∷ sources) n held cuts are is =
     further again less =
         let before : nat_le n size ≡ false = grind (arith, nat_tests, less) in
         let inside : nat_lt (n - 1) size ≡ false = grind (arith, nat_tests, less) in
-        let whole = length-append first rest in
-        let within = is.within in
         let split : length first + (n - size) ≡ n = omega (arith, first_size, less) in
         let order : (n - size) - 1 ≡ n - 1 - size = omega arith in
         let found = again (record {
           some = omega (arith, less);
-          within = omega (arith, whole, within, first_size);
+          within = omega (arith, length-append first rest, is.within, first_size);
           over = ap ends_its_line (sym (drop-append-add first rest (n - size)) ∙ ap (λ k. drop k (first ++ rest)) split)
               ∙ is.over;
         }) in
@@ -422,8 +379,7 @@ ends_at text from (line ∷ lines) (source ∷ sources) n held cuts are is =
           behind = ap (λ t. if t then sources else lines_behind sources (n - size)) before ∙ found.behind;
           ends = subst (IsEndIn text found.line) (ap (λ k. place_of sources k + 1) order
               ∙ ap (λ t. (if t then source.left.scanned + (n - 1) else place_of sources (n - 1 - size)) + 1)
-              (sym inside))
-              found.ends;
+              (sym inside)) found.ends;
         }
 
 -- ---- the definition that was read
@@ -456,17 +412,15 @@ pub definition_span : (names : EntityNames) (text : List ℕ) (lines : List Held
 definition_span names text lines sources at found filled cuts is =
     let defined = definition_ends names (text_of_lines text sources) is.defined is.is in
     let ends = ends_at text 0 lines sources is.defined.length filled.held cuts filled.are defined in
+    let behind = ap length (sym is.behind ∙ ends.behind) in
     let less = slice_get_within lines ends.number ends.line ends.there in
     let size = as_many text lines sources filled.are in
-    let behind = ap length (sym is.behind ∙ ends.behind) in
     let first = length-drop found.lines sources in
     let second = length-drop (suc ends.number) sources in
-    let some = is.lines.0 in
-    let few = is.lines.1 in
     record {
       number = ends.number;
       line = ends.line;
       there = ends.there;
-      count_is = omega (arith, less, size, behind, first, second, some, few);
+      count_is = omega (arith, less, size, behind, first, second, is.lines.0, is.lines.1);
       ends = subst (IsEndIn text ends.line) (sym is.end) ends.ends;
     }

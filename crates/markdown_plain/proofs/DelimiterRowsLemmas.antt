@@ -1,24 +1,20 @@
--- Whether what is left of a line is a delimiter row: which bytes begin none, and where it lies in a further line of a
--- paragraph.
-use Rattle.std.proofs.Common.{◌≡◌, ℕ, zero, suc, ◌+◌, ◌-◌, ◌<◌, ◌≤◌, Bool, true, false, ◌==◌, List, [], ◌∷◌}
-use Rattle.std.proofs.Common.{Option, Some, None, length, drop, refl, sym, ap, ◌∙◌, arith, subst, nat_eq, not}
-use Rattle.std.proofs.Common.{slice_range}
-use Rattle.std.proofs.Common.{nat_le, ⊎_elim}
-use Rattle.std.proofs.Common.{◌&&◌, ◌||◌, get_or, if◌then◌else◌, nat_lt, slice_index, take}
+-- Whether what is left of a line is a delimiter row, and where it lies in a further line of a paragraph; whether a
+-- table begins, and the table that the definition makes of the paragraph then.
+use Rattle.std.proofs.Common.{◌≡◌, ℕ, zero, suc, ◌+◌, ◌-◌, ◌<◌, ◌≤◌, Bool, true, false, ◌==◌, List, [], ◌∷◌, Option}
+use Rattle.std.proofs.Common.{Some, None, length, drop, refl, sym, ap, ◌∙◌, arith, subst, nat_eq, not, slice_range}
+use Rattle.std.proofs.Common.{nat_le, ⊎_elim, ◌&&◌, ◌||◌, get_or, if◌then◌else◌, nat_lt, slice_index, take, ◌++◌}
 use Rattle.std.proofs.lemmas.Bool.{cases_Bool, or_from, true≢false}
 use Rattle.std.proofs.lemmas.Bool.Decides.{nat_tests}
-use Rattle.std.proofs.lemmas.List.{get_or-drop}
-use Rattle.std.proofs.lemmas.List.{length-drop}
+use Rattle.std.proofs.lemmas.List.{get_or-drop, length-drop, append-nil, append_assoc}
 use Rattle.std.proofs.lemmas.List.Sums.{prefix_len-le-length}
 use Rattle.std.proofs.lemmas.Option.{get_or_from_slice_get, slice_get_within}
 use Rattle.std.specs.List.{list_any, prefix_len, slice_get}
 use Rattle.markdown_base.specs.Bytes.{colon, hyphen, pipe, space, tab}
 use Rattle.markdown_base.specs.declared.tag.Alignment.{Alignment}
-use Rattle.markdown_lines.specs.SourceLines.{SourceLine, past_white, stop_of, text_line}
+use Rattle.markdown_lines.specs.SourceLines.{SourceLine, past_white, stop_of, text_line, is_blank_rest}
 use Rattle.markdown_lines.specs.TableRows.{before_alignments, cell_alignment, cell_alignments, cell_over, cells_over}
-use Rattle.markdown_lines.specs.TableRows.{delimiter_row_at, has_cut, is_delimiter_mark, is_row_white}
-use Rattle.markdown_lines.specs.TableRows.{onto_first, parts_after}
-use Rattle.markdown_lines.specs.TableRows.{row_cells}
+use Rattle.markdown_lines.specs.TableRows.{delimiter_row_at, has_cut, is_delimiter_mark, is_row_white, onto_first}
+use Rattle.markdown_lines.specs.TableRows.{parts_after, row_cells}
 use Rattle.markdown_lines.specs.declared.table_row.Cell.{Cell}
 use Rattle.markdown_lines.proofs.PositionsLemmas.{part_next}
 use Rattle.markdown_lines.proofs.TableRowsLemmas.{first_part}
@@ -29,14 +25,21 @@ use Rattle.markdown_plain.proofs.LeafTreesLemmas.{on_test}
 use Rattle.markdown_base.specs.Source.{Source}
 use Rattle.markdown_lines.specs.Positions.{IsSpaceAt, left_from}
 use Rattle.markdown_lines.specs.declared.line.Line.{Line}
-use Rattle.markdown_block_rules.specs.TableLines.{is_near}
-use Rattle.markdown_block_rules.specs.TableLines.{as_many as as_many_of, cells_of, delimiter_row_of}
-use Rattle.markdown_block_rules.specs.TableLines.{fitting, further_line, reads_tables}
+use Rattle.markdown_block_rules.specs.TableLines.{is_near, as_many as as_many_of, cells_of, delimiter_row_of, fitting}
+use Rattle.markdown_block_rules.specs.TableLines.{further_line, reads_tables, hold_fitting, alignments_for, may_be_head}
 use Rattle.markdown_lines.specs.declared.position.Position.{Position}
 use Rattle.markdown_lines.specs.declared.space.Space.{Space as Read}
 use Rattle.markdown_plain.proofs.ReachedFramesLemmas.{space_alike}
-use Rattle.markdown_plain.specs.TableHeads.{IsNearRow, IsRowRest}
-use Rattle.markdown_plain.proofs.TableHeadsLemmas.{some_before}
+use Rattle.markdown_plain.specs.TableHeads.{IsNearRow, IsRowRest, BeginsNoTable, FollowsLast, IsLastLine, last_of}
+use Rattle.markdown_plain.proofs.TableHeadsLemmas.{some_before, count_of}
+use Rattle.std.specs.Option.{is_some}
+use Rattle.markdown_lines.specs.declared.held_line.HeldLine.{HeldLine}
+use Rattle.markdown_plain.specs.HeldSources.{AreTextLines, IsTextLine}
+use Rattle.markdown_base.specs.Forest.{Forest}
+use Rattle.markdown_block_rules.specs.BlockGrowth.{Block, cut_paragraph, paragraph_leaf, table_after, table_of_lines}
+use Rattle.markdown_block_rules.specs.BlockGrowth.{table_with}
+use Rattle.markdown_block_rules.specs.BlockRules.{lines_end as last_next}
+use Rattle.markdown_plain.specs.declared.pass.Pass.{Pass}
 
 -- ---- a byte that begins no delimiter row
 
@@ -122,9 +125,8 @@ no_row_of text at bytes has other less =
 pub no_row_at : (text : List ℕ) (at stop b : ℕ) → Some b ≡ slice_get text at → is_row_white b ≡ false
     → (b == pipe) ≡ false → (b == colon) ≡ false → (b == hyphen) ≡ false → delimiter_row_at text at stop ≡ None
 no_row_at text at stop b there black other less more =
-    let within = slice_get_within text at b (sym there) in
     let is : get_or text at 0 ≡ b = get_or_from_slice_get text at b 0 (sym there) in
-    decided within is (nat_lt at stop) refl
+    decided (slice_get_within text at b (sym there)) is (nat_lt at stop) refl
   where
     decided : at < length text → get_or text at 0 ≡ b → (some : Bool) → nat_lt at stop ≡ some
         → delimiter_row_at text at stop ≡ None
@@ -138,27 +140,20 @@ no_row_at text at stop b there black other less more =
         let over : stop - at ≡ 0 = grind (arith, nat_tests) in
         ap (row_of text at) (ap (λ n. take n (drop at text)) over)
 
+unlike : (n m : ℕ) → (n ≡ m → ⊥) → (n == m) ≡ false
+unlike n m differ = grind (arith, nat_tests)
+
 -- the same, by what it is not
 pub no_row_byte : (text : List ℕ) (at stop b : ℕ) → Some b ≡ slice_get text at → is_row_white b ≡ false
     → (b ≡ hyphen → ⊥) → (b ≡ colon → ⊥) → (b ≡ pipe → ⊥) → delimiter_row_at text at stop ≡ None
 no_row_byte text at stop b there black more less other =
     no_row_at text at stop b there black (unlike b pipe other) (unlike b colon less) (unlike b hyphen more)
-  where
-    unlike : (n m : ℕ) → (n ≡ m → ⊥) → (n == m) ≡ false
-    unlike n m differ = grind (arith, nat_tests)
 
 -- a byte that is none of these is no white space of rows
 pub is_black : (b : ℕ) → is_space_or_tab b ≡ false → (b ≡ 11 → ⊥) → nat_eq b 12 ≡ false → is_row_white b ≡ false
 is_black b space less more =
     or_from (is_space_or_tab b || (b == 11)) (b == 12)
     (or_from (is_space_or_tab b) (b == 11) space (unlike b 11 less)) more
-  where
-    unlike : (n m : ℕ) → (n ≡ m → ⊥) → (n == m) ≡ false
-    unlike n m differ = grind (arith, nat_tests)
-
-    no_bytes : (n : ℕ) → take {A = ℕ} n [] ≡ []
-    no_bytes zero = refl
-    no_bytes (suc n) = refl
 
 -- ---- the line after it as a delimiter row
 
@@ -187,14 +182,13 @@ no_more_space : (n scanned column : ℕ) (bytes : List ℕ) → column < 4 → (
 no_more_space n scanned column [] less = λ few. refl
 no_more_space n scanned column (b ∷ bytes) less =
     let width = space_width column b in
-    let next = column_after column b in
     on_test (λ (s : Space). s.columns < n → prefix_len is_space_or_tab s.after.bytes ≡ 0)
     ((n == 0) || (width == 0)) _ _
     (λ none few. rw (no_width column b less (second n (width == 0) few none)) refl)
     (λ some. on_test (λ (s : Space). s.columns < n → prefix_len is_space_or_tab s.after.bytes ≡ 0)
     (nat_lt n width) _ _
     (λ more few. absurd (omega (arith, few)))
-    (λ fits few. no_more_space (n - width) (scanned + 1) next bytes (less_column column b less)
+    (λ fits few. no_more_space (n - width) (scanned + 1) (column_after column b) bytes (less_column column b less)
     (omega (arith, few))))
   where
     second : (n : ℕ) (other : Bool) → 0 < n → ((n == 0) || other) ≡ true → other ≡ true
@@ -250,7 +244,6 @@ pub near_row : (s : Source) (text : List ℕ) (line : Line) (position : Position
 near_row s text line position l read row column near =
     let further = further_is s l row.is.reads in
     let columns = space_of s text line position l read row in
-    let indent = ap (λ (r : SourceLine). r.indent) further ∙ ap Some (sym columns) in
     let some : nat_lt read.columns 4 ≡ true = grind (arith, nat_tests) in
     let left = row.is.rest.left in
     let after : left_from text read.after line.stop ≡ (leading_space 4 l.left).after =
@@ -259,11 +252,10 @@ near_row s text line position l read row column near =
     let few : (leading_space 4 l.left).columns < 4 = omega (arith, columns, near) in
     let alike = space_alike 4 l.left in
     let scanned = ap (λ (left : LineLeft). left.scanned) after in
-    let content = alike.content in
     let none = no_space_after 4 l.left low few in
-    let start : read.after.at ≡ (past_white l.left).scanned = omega (arith, scanned, content, none) in
+    let start : read.after.at ≡ (past_white l.left).scanned = omega (arith, scanned, alike.content, none) in
     record {
-      near = ap is_near indent ∙ some;
+      near = ap is_near (ap (λ (r : SourceLine). r.indent) further ∙ ap Some (sym columns)) ∙ some;
       start = start ∙ ap (λ (r : SourceLine). r.left.scanned) (sym further);
       stop_is = row.is.stop ∙ (white_end l.left ∙ ap stop_of (sym further));
     }
@@ -271,9 +263,8 @@ near_row s text line position l read row column near =
     white_end : (left : LineLeft) → left.scanned + length left.bytes
         ≡ (past_white left).scanned + length (past_white left).bytes
     white_end left =
-        let within = prefix_len-le-length is_space_or_tab left.bytes in
         let size = length-drop (prefix_len is_space_or_tab left.bytes) left.bytes in
-        omega (arith, within, size)
+        omega (arith, prefix_len-le-length is_space_or_tab left.bytes, size)
 
 -- where it is none
 pub other_row : (s : Source) (text : List ℕ) (from row : SourceLine) (at stop : ℕ) → text ≡ s.text
@@ -291,3 +282,156 @@ lazy_row s from row lazy =
     no_row_fits s from row
     (ap (λ (test : Bool). if test then delimiter_row_at s.text row.left.scanned (stop_of row) else None)
     (ap is_near lazy))
+
+-- ---- whether a table begins
+
+-- two lines fit that are not the first: the last of them may be the last line
+or_last : (p q r : Bool) → (p || (q || r)) ≡ ((p || q) || r)
+or_last true q r = refl
+or_last false q r = refl
+
+or_none : (p : Bool) → (p || false) ≡ p
+or_none true = refl
+or_none false = refl
+
+pub hold_more : (s : Source) (lines : List SourceLine) (from row : SourceLine)
+    → hold_fitting s (lines ++ from ∷ row ∷ [])
+    ≡ (hold_fitting s (lines ++ from ∷ []) || (is_some from.indent && is_some (fitting s from row)))
+hold_more s [] from row = or_none (is_some from.indent && is_some (fitting s from row))
+hold_more s (l ∷ []) from row =
+    let fits = is_some l.indent && is_some (fitting s l from) in
+    let last = is_some from.indent && is_some (fitting s from row) in
+    ap (λ (later : Bool). fits || later) (hold_more s [] from row) ∙ or_last fits false last
+hold_more s (l ∷ m ∷ lines) from row =
+    let fits = is_some l.indent && is_some (fitting s l m) in
+    ap (λ (later : Bool). fits || later) (hold_more s (m ∷ lines) from row)
+    ∙ or_last fits (hold_fitting s (m ∷ lines ++ from ∷ [])) (is_some from.indent && is_some (fitting s from row))
+
+-- a line that fits no head begins no table, and nothing is tried
+pub none_begun : {old : Pass} {line : Line} {position : Position}
+    → ((s : Source) (before : List SourceLine) (from l : SourceLine) → FollowsLast s old line position before from l
+    → fitting s from (further_line s l) ≡ None) → BeginsNoTable old old line position
+none_begun {old} none = record {
+  same = refl;
+  fits = λ s before from l follows.
+      let fits = none s before from l follows in (
+        either_none (may_be_head s before from) (fitting s from (further_line s l)) fits,
+        follows.last.tried ∙ sym (hold_more s before from (further_line s l)
+            ∙ (ap (λ (found : Option (List Alignment)). hold_fitting s (before ++ from ∷ [])
+            || (is_some from.indent && is_some found)) fits
+            ∙ no_last (hold_fitting s (before ++ from ∷ [])) (is_some from.indent))),
+      );
+}
+  where
+    no_last : (p q : Bool) → (p || (q && false)) ≡ p
+    no_last true q = refl
+    no_last false true = refl
+    no_last false false = refl
+
+-- where it fits one that may be no head, that is tried, unless it was lazy
+pub tried_then : {s : Source} {pass : Pass} {line : Line} {position : Position} {before : List SourceLine}
+    {from l : SourceLine} {found : List Alignment} {now : Bool} → FollowsLast s pass line position before from l
+    → Some found ≡ fitting s from (further_line s l) → now ≡ (pass.tried || is_some from.indent)
+    → now ≡ hold_fitting s (before ++ from ∷ further_line s l ∷ [])
+tried_then {s} {before} {from} {l} follows fits tried =
+    tried ∙ (ap (λ (before : Bool). before || is_some from.indent) follows.last.tried
+    ∙ sym (hold_more s before from (further_line s l)
+    ∙ (ap (λ (fitted : Option (List Alignment)). hold_fitting s (before ++ from ∷ [])
+    || (is_some from.indent && is_some fitted)) (sym fits)
+    ∙ ap (λ (last : Bool). hold_fitting s (before ++ from ∷ []) || last) (and_true (is_some from.indent)))))
+  where
+    and_true : (p : Bool) → (p && true) ≡ p
+    and_true true = refl
+    and_true false = refl
+
+-- the last line of the paragraph, as it is read
+pub last_is : {s : Source} {pass : Pass} {line : Line} {position : Position} {before : List SourceLine}
+    {from l : SourceLine} (head : HeldLine) → FollowsLast s pass line position before from l
+    → Some head ≡ last_of pass.lines.items → IsLastLine s pass head before from
+last_is {s} {pass} {before = before} {from = from} head follows there =
+    let same : follows.head ≡ head = cc (follows.last.there, there) in
+    subst (λ (h : HeldLine). IsLastLine s pass h before from) same follows.last
+
+last_text_at : (text : List ℕ) (lines : List HeldLine) (before : List SourceLine) (from : SourceLine)
+    (head : HeldLine) → AreTextLines text lines (before ++ from ∷ []) → slice_get lines (length before) ≡ Some head
+    → IsTextLine text head from
+last_text_at text [] [] from head are there = absurd are
+last_text_at text [] (l ∷ before) from head are there = absurd are
+last_text_at text (line ∷ lines) [] from head are there =
+    let same : line ≡ head = cc in subst (λ (h : HeldLine). IsTextLine text h from) same are.0
+last_text_at text (line ∷ lines) (l ∷ before) from head are there =
+    last_text_at text lines before from head are.1 there
+
+-- the rest of a line after the open paragraph, with the space that was read before it
+module _ {s : Source} {pass : Pass} {line : Line} {position : Position} {before : List SourceLine}
+    {from l : SourceLine} (follows : FollowsLast s pass line position before from l) (read : Read)
+    (space : IsSpaceAt pass.placing.builder.text position line.stop 4 read) where
+  reads : IsReadRow s pass.placing.builder.text line position l read
+  reads = record { same = ap (λ (s : Source). s.text) follows.last.source; is = follows.rest; space = space }
+
+  pub far_fits : 4 ≤ read.columns → fitting s from (further_line s l) ≡ None
+  far_fits far = far_row s pass.placing.builder.text line position l from read reads far
+
+  near : position.column < 4 → read.columns < 4 → IsNearRow read.after.at line.stop (further_line s l)
+  near column few = near_row s pass.placing.builder.text line position l read reads column few
+
+  pub other_fits : position.column < 4 → read.columns < 4
+      → delimiter_row_at pass.placing.builder.text read.after.at line.stop ≡ None
+      → fitting s from (further_line s l) ≡ None
+  other_fits column few none =
+      other_row s pass.placing.builder.text from (further_line s l) read.after.at line.stop reads.same
+      (near column few) none
+
+  pub read_fits : (head : HeldLine) (found : Option (List Alignment)) → position.column < 4 → read.columns < 4
+      → Some head ≡ last_of pass.lines.items
+      → ((s : Source) (from row : SourceLine) → pass.placing.builder.text ≡ s.text
+      → IsTextLine pass.placing.builder.text head from → IsNearRow read.after.at line.stop row
+      → found ≡ fitting s from row)
+      → found ≡ fitting s from (further_line s l)
+  read_fits head found column few there known =
+      let lines = pass.lines.items in
+      let are = follows.last.lines.are in
+      let count = count_of pass.placing.builder.text lines before from are in
+      let place : length lines - 1 ≡ length before = omega (arith, count) in
+      known s from (further_line s l) reads.same (last_text_at pass.placing.builder.text lines before from head are
+      (ap (slice_get lines) (sym place) ∙ sym there)) (near column few)
+
+-- ---- the table that a line makes of the last line of a paragraph
+
+table_of_last : (s : Source) (l : SourceLine) (b : Block) (end : ℕ) (first before : List SourceLine)
+    (from : SourceLine) → table_of_lines s l b end first (before ++ from ∷ [])
+    ≡ table_after l (cut_paragraph b (last_next end before) (first ++ before)) from
+    (alignments_for s l (first ++ before) from)
+table_of_last s l b end first [] from =
+    ap (λ (lines : List SourceLine). table_after l (cut_paragraph b end lines) from (alignments_for s l lines from))
+    (sym (append-nil first))
+table_of_last s l b end first (m ∷ []) from =
+    table_of_last s l b m.next (first ++ m ∷ []) [] from
+    ∙ ap (λ (lines : List SourceLine). table_after l (cut_paragraph b m.next lines) from
+    (alignments_for s l lines from)) (append-nil (first ++ m ∷ []))
+table_of_last s l b end first (m ∷ n ∷ before) from =
+    table_of_last s l b m.next (first ++ m ∷ []) (n ∷ before) from
+    ∙ ap (λ (lines : List SourceLine). table_after l (cut_paragraph b (last_next m.next (n ∷ before)) lines) from
+    (alignments_for s l lines from)) (append_assoc first (m ∷ []) (n ∷ before))
+
+-- none where it is no head
+pub table_none : (s : Source) (l from : SourceLine) (b : Block) (before : List SourceLine)
+    → alignments_for s l before from ≡ None → table_with s l b (paragraph_leaf (before ++ from ∷ [])) ≡ None
+table_none s l from b before none =
+    on_test (λ (found : Option (Forest Block)). found ≡ None) (is_blank_rest l || not (reads_tables s)) None
+    (table_of_lines s l b b.first [] (before ++ from ∷ [])) (λ e. refl)
+    (λ e. table_of_last s l b b.first [] before from
+    ∙ ap (table_after l (cut_paragraph b (last_next b.first before) before) from) none)
+
+-- or after the lines before it, with these alignments
+pub table_some : (s : Source) (l from : SourceLine) (b : Block) (before : List SourceLine)
+    (found : List Alignment) → is_blank_rest l ≡ false → reads_tables s ≡ true
+    → alignments_for s l before from ≡ Some found
+    → table_with s l b (paragraph_leaf (before ++ from ∷ []))
+    ≡ table_after l (cut_paragraph b (last_next b.first before) before) from (Some found)
+table_some s l from b before found filled reads is =
+    ap (λ (test : Bool). if test || not (reads_tables s) then None
+    else table_of_lines s l b b.first [] (before ++ from ∷ [])) filled
+    ∙ (ap (λ (test : Bool). if not test then None else table_of_lines s l b b.first [] (before ++ from ∷ [])) reads
+    ∙ (table_of_last s l b b.first [] before from
+    ∙ ap (table_after l (cut_paragraph b (last_next b.first before) before) from) is))

@@ -1,16 +1,17 @@
--- What a paragraph is divided into where its first definition is taken, and where there is none.
+-- What a paragraph is divided into where its first definition is taken, and where there is none; lines that are
+-- definitions alone.
 use Rattle.std.proofs.Common.{◌≡◌, ℕ, zero, suc, ◌+◌, ◌-◌, ◌<◌, ◌≤◌, Bool, true, false, ◌==◌, List, [], ◌∷◌, ◌++◌}
 use Rattle.std.proofs.Common.{Option, Some, None, length, drop, refl, sym, ap, ◌∙◌, arith, subst, codes, get_or}
 use Rattle.std.proofs.Common.{append_assoc, if◌then◌else◌, nat_eq, nat_le, not, slice_range, take}
 use Rattle.std.proofs.lemmas.Bool.{true≢false}
 use Rattle.std.proofs.lemmas.Bool.Decides.{nat_tests}
-use Rattle.std.proofs.lemmas.List.{append-nil, drop-drop, length-drop}
+use Rattle.std.proofs.lemmas.List.{append-nil, drop-drop, length-drop, take_all}
 use Rattle.std.proofs.lemmas.Option.{get_or_from_slice_get, slice_get-get_or}
 use Rattle.std.specs.List.{slice_get}
 use Rattle.std.specs.Option.{option_eq, option_map}
 use Rattle.markdown_base.proofs.ByteListLemmas.{part_length}
 use Rattle.markdown_base.specs.CowText.{text_of}
-use Rattle.markdown_builder.specs.BuilderView.{BuilderView, Definition}
+use Rattle.markdown_builder.specs.BuilderView.{BuilderView, Definition, nothing_made}
 use Rattle.markdown_scan.specs.Beginnings.{begins_with}
 use Rattle.markdown_scan.specs.declared.entity.EntityNames.{EntityNames}
 use Rattle.markdown_lines.specs.DefinitionRules.{Defined, Divided, definition_at, definition_in, divided, divided_in}
@@ -30,7 +31,7 @@ differs : (n m : ℕ) → (n ≡ m → ⊥) → (n == m) ≡ false
 differs n m other = grind (arith, nat_tests)
 
 -- a definition takes a line or more
-fewer_behind : (lines : List SourceLine) (count : ℕ) → length (lines_behind lines count) ≤ length lines - 1
+pub fewer_behind : (lines : List SourceLine) (count : ℕ) → length (lines_behind lines count) ≤ length lines - 1
 fewer_behind [] count = omega arith
 fewer_behind (l ∷ lines) count =
     let fewer = fewer_behind lines (count - (l.next - l.left.scanned)) in
@@ -56,10 +57,8 @@ enough names (suc n) (suc m) text lines few also =
     let fewer = fewer_behind lines count in
     enough names n m text (lines_behind lines count) (omega (arith, fewer, few)) (omega (arith, fewer, also)))
   where
-    by : (found : Option Defined)
-        → ((count : ℕ) → divided_in names n text (lines_behind lines count)
-        ≡ divided_in names m text (lines_behind lines count))
-        → more_definitions (divided_in names n text) lines found
+    by : (found : Option Defined) → ((count : ℕ) → divided_in names n text (lines_behind lines count)
+        ≡ divided_in names m text (lines_behind lines count)) → more_definitions (divided_in names n text) lines found
         ≡ more_definitions (divided_in names m text) lines found
     by None same = refl
     by (Some d) same = ap (after_definitions (definition_at lines d ∷ [])) (same d.length)
@@ -84,8 +83,7 @@ from_first text from (line ∷ lines) held = (omega arith, held.1)
 in_paragraph : (text : List ℕ) (lines : List HeldLine) → AreHeldFrom text 0 lines → AreInParagraph text lines
 in_paragraph text [] held = held
 in_paragraph text (line ∷ lines) held =
-    let some = held.1.0.some in
-    let other = differs line.start line.stop (λ (e : line.start ≡ line.stop). omega (arith, some, e)) in
+    let other = differs line.start line.stop (λ (e : line.start ≡ line.stop). omega (arith, held.1.0.some, e)) in
     subst (λ (empty : Bool). AreInOrder empty text line lines) (sym other) held
 
 paragraph_of : (text : List ℕ) (lines : List HeldLine) (sources : List SourceLine) → AreFilled text lines sources
@@ -112,9 +110,8 @@ no_empty text (line ∷ lines) [] filled = absurd filled.are
 no_empty text (line ∷ lines) (source ∷ sources) filled =
     let bounds = bounds_of text line filled.held.1.0 in
     let size = part_length text line.start line.stop (omega (arith, bounds.next, bounds.within)) in
-    let bytes = ap length filled.are.0.bytes in
     let some : (length source.left.bytes == 0) ≡ false = differs (length source.left.bytes) 0
-    (λ (e : length source.left.bytes ≡ 0). omega (arith, bounds.stop, size, bytes, e)) in
+    (λ (e : length source.left.bytes ≡ 0). omega (arith, bounds.stop, size, ap length filled.are.0.bytes, e)) in
     rw some refl
 
 divided_filled : (names : EntityNames) (text : List ℕ) (lines : List HeldLine) (sources : List SourceLine)
@@ -138,15 +135,14 @@ filled_of text (first ∷ lines) sources line there some is =
 
 -- the first line of a paragraph is taken, where it is empty
 pub takes_empty : (names : EntityNames) (old new : BuilderView) (lines : List HeldLine) (sources : List SourceLine)
-    (line : HeldLine) → slice_get lines 0 ≡ Some line → line.start ≡ line.stop
-    → IsParagraph old.text lines sources → new.definitions ≡ old.definitions
-    → TakesDefinitions names old new lines sources 1
+    (line : HeldLine) → slice_get lines 0 ≡ Some line → line.start ≡ line.stop → IsParagraph old.text lines sources
+    → new.definitions ≡ old.definitions → TakesDefinitions names old new lines sources 1
 takes_empty names old new [] sources line there none is kept = cc
 takes_empty names old new (first ∷ lines) [] line there none is kept = absurd is.are
 takes_empty names old new (first ∷ lines) (source ∷ sources) line there none is kept =
     let same : first ≡ line = cc in
     let empty = subst (λ (l : HeldLine). l.start ≡ l.stop) (sym same) none in
-    let test : (first.start == first.stop) ≡ true = equal first.start first.stop empty in
+    let test : (first.start == first.stop) ≡ true = grind (arith, nat_tests, empty) in
     let held = subst (λ (empty : Bool). AreInOrder empty old.text first lines) test is.inside in
     let filled : AreFilled old.text lines sources =
     record { held = from_first old.text first.next lines held; are = is.are.1 } in
@@ -162,11 +158,14 @@ takes_empty names old new (first ∷ lines) (source ∷ sources) line there none
       left = paragraph_of old.text lines sources filled;
     }
   where
-    equal : (n m : ℕ) → n ≡ m → (n == m) ≡ true
-    equal n m same = grind (arith, nat_tests)
-
     nothing : (text : List ℕ) (at : ℕ) → slice_range text at at ≡ []
     nothing text at = let none : at - at ≡ 0 = omega arith in ap (λ n. take n (drop at text)) none
+
+-- where no line is taken, all are left
+pub takes_nothing : (names : EntityNames) (builder : BuilderView) (lines : List HeldLine) (sources : List SourceLine)
+    → IsParagraph builder.text lines sources → TakesDefinitions names builder builder lines sources 0
+takes_nothing names builder lines sources is =
+    record { first = []; definitions = sym (append-nil builder.definitions); others = refl; left = is }
 
 -- there is no definition at the beginning of a paragraph
 pub none_there : (names : EntityNames) (text : List ℕ) (lines : List HeldLine) (sources : List SourceLine)
@@ -230,31 +229,23 @@ as_many text (line ∷ lines) (source ∷ sources) are = ap suc (as_many text li
 
 -- the first byte is no `[`
 pub no_bracket_byte : (found : Option ℕ) → not (option_eq nat_eq found (Some 91)) ≡ true → found ≡ Some 91 → ⊥
-no_bracket_byte None e same = cc
-no_bracket_byte (Some b) e same = by b e (inside b same)
-  where
-    by : (b : ℕ) → not (nat_eq b 91) ≡ true → b ≡ 91 → ⊥
-    by b e same = grind (arith, nat_tests)
-
-    inside : (b : ℕ) → Some b ≡ Some 91 → b ≡ 91
-    inside b same = cc
+no_bracket_byte found e same = true≢false (sym e ∙ ap (λ f. not (option_eq nat_eq f (Some 91))) same)
 
 -- or it is one
 pub bracket_byte : (found : Option ℕ) → not (option_eq nat_eq found (Some 91)) ≡ false → found ≡ Some 91
 bracket_byte None e = absurd (true≢false e)
-bracket_byte (Some b) e = ap Some (by b e)
-  where
-    by : (b : ℕ) → not (nat_eq b 91) ≡ false → b ≡ 91
-    by b e = grind (arith, nat_tests)
+bracket_byte (Some b) e =
+    let other : not (nat_eq b 91) ≡ false = e in
+    let same : b ≡ 91 = grind (arith, nat_tests, other) in
+    ap Some same
 
 -- what is read at the beginning of a paragraph that begins with a `[`
 pub first_read : (names : EntityNames) (text read : List ℕ) (lines : List HeldLine) (sources : List SourceLine)
-    (line : HeldLine) (byte : Option ℕ) (found : Option Found)
-    → slice_get lines 0 ≡ Some line → AreFilled text lines sources → read ≡ text → byte ≡ slice_get read line.start
+    (line : HeldLine) (byte : Option ℕ) (found : Option Found) → slice_get lines 0 ≡ Some line
+    → AreFilled text lines sources → read ≡ text → byte ≡ slice_get read line.start
     → not (option_eq nat_eq byte (Some 91)) ≡ false
     → ((sources : List SourceLine) → AreLinesOfSource lines sources → IsBracketPlace read lines line.start
-    → IsFirstDefinition names read sources line.start found)
-    → IsFirstDefinition names text sources line.start found
+    → IsFirstDefinition names read sources line.start found) → IsFirstDefinition names text sources line.start found
 first_read names text read lines sources line byte found there filled same is_byte is_bracket reads =
     let bracket = sym is_byte ∙ bracket_byte byte is_bracket in
     subst (λ (t : List ℕ). IsFirstDefinition names t sources line.start found) same
@@ -269,19 +260,17 @@ first_read names text read lines sources line byte found there filled same is_by
 -- after the first definition
 divided_on : (names : EntityNames) (text : List ℕ) (sources : List SourceLine) (count : ℕ) (d : Defined) → 0 < count
     → count ≤ length sources → definition_in names (text_of_lines text sources) ≡ Some d
-    → lines_behind sources d.length ≡ drop count sources
-    → divided_in names (length sources) text sources
+    → lines_behind sources d.length ≡ drop count sources → divided_in names (length sources) text sources
     ≡ after_definitions (definition_at sources d ∷ [])
     (divided_in names (length (drop count sources)) text (drop count sources))
 unfolding divided_in
 divided_on names text [] count d some few is behind = absurd (omega (arith, some, few))
 divided_on names text (source ∷ sources) count d some few is behind =
-    let size = length-drop count (source ∷ sources) in
     let begins = λ (others : Divided). after_definitions (definition_at (source ∷ sources) d ∷ []) others in
     ap (more_definitions (divided_in names (length sources) text) (source ∷ sources)) is
     ∙ (ap (λ (ls : List SourceLine). begins (divided_in names (length sources) text ls)) behind
     ∙ ap begins (enough names (length sources) (length (drop count (source ∷ sources))) text
-    (drop count (source ∷ sources)) (omega (arith, some, size)) (omega arith)))
+    (drop count (source ∷ sources)) (omega (arith, some, length-drop count (source ∷ sources))) (omega arith)))
 
 -- the first definition is taken
 pub takes_first : (names : EntityNames) (old new : BuilderView) (lines : List HeldLine) (sources : List SourceLine)
@@ -292,8 +281,7 @@ pub takes_first : (names : EntityNames) (old new : BuilderView) (lines : List He
       title = option_map text_of found.title;
       start = at;
       end = found.end;
-    } ∷ []
-    → TakesDefinitions names old new lines sources found.lines
+    } ∷ [] → TakesDefinitions names old new lines sources found.lines
 takes_first names old new lines sources at found filled is adds =
     let left = filled_left old.text lines sources found.lines filled in
     record {
@@ -326,22 +314,17 @@ takes_more names old mid new lines sources taken more text before after =
     let here = drop-drop more taken lines ∙ ap (λ n. drop n lines) count in
     let there = drop-drop more taken sources ∙ ap (λ n. drop n sources) count in
     let rest = divided names old.text (drop more (drop taken sources)) in
-    let others = subst (λ (t : List ℕ). divided names t (drop taken sources)
-    ≡ after_definitions after.first (divided names t (drop more (drop taken sources)))) text after.others in
+    let others = rw text at after.others in
     record {
       first = before.first ++ after.first;
       definitions = after.definitions ∙ (ap (λ (ds : List Definition). ds ++ after.first) before.definitions
           ∙ append_assoc old.definitions before.first after.first);
-      others = before.others
-          ∙ (ap (after_definitions before.first) others
+      others = before.others ∙ (ap (after_definitions before.first) others
           ∙ (ap (λ (ds : List Definition). record { definitions = ds; lines = rest.lines })
           (sym (append_assoc before.first after.first rest.definitions))
           ∙ ap (λ (ls : List SourceLine). after_definitions (before.first ++ after.first)
           (divided names old.text ls)) there));
-      left = subst (λ (ls : List HeldLine). IsParagraph old.text ls (drop (more + taken) sources)) here
-          (subst (λ (ls : List SourceLine). IsParagraph old.text (drop more (drop taken lines)) ls) there
-          (subst (λ (t : List ℕ). IsParagraph t (drop more (drop taken lines)) (drop more (drop taken sources))) text
-          after.left));
+      left = rw (here, there, text) at after.left;
     }
 
 -- all are taken
@@ -368,3 +351,160 @@ none_left names text lines sources taken are all =
         → divided names text rest ≡ record { definitions = []; lines = rest }
     by [] e = none_in names 0 text [] refl
     by (l ∷ rest) e = absurd (omega (arith, e, all, length-drop taken lines))
+
+-- ---- lines that are definitions alone
+
+-- the lines after some of a paragraph are those of a paragraph, and of both, the same are no definitions
+pub record IsLeftOf (names : EntityNames) (text : List ℕ) (lines : List HeldLine) (sources : List SourceLine)
+    (taken : ℕ) : Type 0 where
+  pub within : taken ≤ length lines
+  pub same : (divided names text sources).lines ≡ (divided names text (drop taken sources)).lines
+  pub left : IsParagraph text (drop taken lines) (drop taken sources)
+
+-- the line that comes next
+pub next_line : (lines : List HeldLine) (taken : ℕ) (line : HeldLine) → slice_get lines taken ≡ Some line
+    → slice_get (drop taken lines) 0 ≡ Some line
+next_line lines zero line there = there
+next_line [] (suc taken) line there = cc
+next_line (first ∷ lines) (suc taken) line there = next_line lines taken line there
+
+some_left : (lines : List HeldLine) (taken : ℕ) (line : HeldLine) → slice_get lines taken ≡ Some line
+    → taken < length lines
+some_left [] taken line there = cc
+some_left (first ∷ lines) zero line there = omega arith
+some_left (first ∷ lines) (suc taken) line there = let h = some_left lines taken line there in omega (arith, h)
+
+pub less_differs : {n m : ℕ} → n < m → n ≡ m → ⊥
+less_differs less e = omega (arith, less, e)
+
+-- more is taken
+left_more : (names : EntityNames) (new : BuilderView) (text : List ℕ) (lines : List HeldLine)
+    (sources : List SourceLine) (taken more : ℕ) → IsLeftOf names text lines sources taken
+    → TakesDefinitions names (nothing_made text) new (drop taken lines) (drop taken sources) more
+    → more ≤ length (drop taken lines) → IsLeftOf names text lines sources (more + taken)
+left_more names new text lines sources taken more left takes few =
+    let count : taken + more ≡ more + taken = omega arith in
+    let here = drop-drop more taken lines ∙ ap (λ n. drop n lines) count in
+    let there = drop-drop more taken sources ∙ ap (λ n. drop n sources) count in
+    record {
+      within = omega (arith, few, left.within, length-drop taken lines);
+      same = left.same ∙ (ap (λ (d : Divided). d.lines) takes.others
+          ∙ ap (λ (ls : List SourceLine). (divided names text ls).lines) there);
+      left = rw (here, there) at takes.left;
+    }
+
+-- the first line is empty where it does not end after it begins
+pub first_empty : (text : List ℕ) (lines : List HeldLine) (sources : List SourceLine) (line : HeldLine)
+    → slice_get lines 0 ≡ Some line → line.stop ≤ line.start → IsParagraph text lines sources → line.start ≡ line.stop
+first_empty text [] sources line there none is = cc
+first_empty text (first ∷ lines) sources line there none is =
+    let same : first ≡ line = cc in
+    subst (λ (l : HeldLine). l.start ≡ l.stop) same
+    (decided (subst (λ (l : HeldLine). l.stop ≤ l.start) (sym same) none) (first.start == first.stop) refl is.inside)
+  where
+    decided : first.stop ≤ first.start → (test : Bool) → (first.start == first.stop) ≡ test
+        → AreInOrder test text first lines → first.start ≡ first.stop
+    decided none true e held = grind (arith, nat_tests)
+    decided none false e held = let some = held.1.0.some in absurd (omega (arith, some, none))
+
+-- it is passed over
+pub left_empty : (names : EntityNames) (text : List ℕ) (lines : List HeldLine) (sources : List SourceLine) (taken : ℕ)
+    (line : HeldLine) → slice_get lines taken ≡ Some line → line.stop ≤ line.start
+    → IsLeftOf names text lines sources taken → IsLeftOf names text lines sources (taken + 1)
+left_empty names text lines sources taken line there none left =
+    let next = next_line lines taken line there in
+    let empty = first_empty text (drop taken lines) (drop taken sources) line next none left.left in
+    let takes = takes_empty names (nothing_made text) (nothing_made text) (drop taken lines) (drop taken sources)
+    line next empty left.left refl in
+    subst (IsLeftOf names text lines sources) (omega arith)
+    (left_more names (nothing_made text) text lines sources taken 1 left takes
+    (omega (arith, some_left lines taken line there, length-drop taken lines)))
+
+-- a definition is taken
+pub left_after : (names : EntityNames) (text : List ℕ) (lines : List HeldLine) (sources : List SourceLine) (taken : ℕ)
+    (line : HeldLine) (found : Found) → slice_get lines taken ≡ Some line → line.start < line.stop
+    → IsLeftOf names text lines sources taken → IsDefinitionOf names text (drop taken sources) line.start found
+    → IsLeftOf names text lines sources (found.lines + taken)
+left_after names text lines sources taken line found there some left is =
+    let next = next_line lines taken line there in
+    let filled = filled_of text (drop taken lines) (drop taken sources) line next (less_differs some) left.left in
+    left_more names (record (nothing_made text) {
+      definitions = record {
+        label = text_of found.label;
+        destination = text_of found.destination;
+        title = option_map text_of found.title;
+        start = line.start;
+        end = found.end;
+      } ∷ [];
+    }) text lines sources taken found.lines left
+    (takes_first names (nothing_made text) _ (drop taken lines) (drop taken sources) line.start found filled is refl)
+    (omega (arith, as_many text (drop taken lines) (drop taken sources) left.left.are, is.lines.1))
+
+-- what is read at the line that comes next
+pub read_next : (names : EntityNames) (text : List ℕ) (lines : List HeldLine) (sources : List SourceLine)
+    (taken : ℕ) (line : HeldLine) (byte : Option ℕ) (found : Option Found)
+    → slice_get lines taken ≡ Some line → line.start < line.stop → IsLeftOf names text lines sources taken
+    → byte ≡ slice_get text line.start → not (option_eq nat_eq byte (Some 91)) ≡ false
+    → ((sources : List SourceLine) → AreLinesOfSource (slice_range lines taken (length lines)) sources
+    → IsBracketPlace text (slice_range lines taken (length lines)) line.start
+    → IsFirstDefinition names text sources line.start found)
+    → IsFirstDefinition names text (drop taken sources) line.start found
+read_next names text lines sources taken line byte found there some left is_byte is_bracket reads =
+    let next = next_line lines taken line there in
+    let filled = filled_of text (drop taken lines) (drop taken sources) line next (less_differs some) left.left in
+    let rest : slice_range lines taken (length lines) ≡ drop taken lines =
+    take_all (length lines - taken) (drop taken lines) (omega (arith, length-drop taken lines)) in
+    first_read names text text (drop taken lines) (drop taken sources) line byte found next filled refl is_byte
+    is_bracket (subst (λ (ls : List HeldLine). (sources : List SourceLine) → AreLinesOfSource ls sources
+    → IsBracketPlace text ls line.start → IsFirstDefinition names text sources line.start found) rest reads)
+
+pub positive : (n : ℕ) → 0 < n → false ≡ (n == 0)
+positive n some = grind (arith, nat_tests)
+
+pub nothing : (n : ℕ) → n ≡ 0 → true ≡ (n == 0)
+nothing n none = grind (arith, nat_tests)
+
+-- a line is left
+left_some : (names : EntityNames) (text : List ℕ) (lines : List HeldLine) (sources : List SourceLine) (taken : ℕ)
+    (line : HeldLine) → slice_get lines taken ≡ Some line → IsLeftOf names text lines sources taken
+    → divided names text (drop taken sources) ≡ record { definitions = []; lines = drop taken sources }
+    → false ≡ (length (divided names text sources).lines == 0)
+left_some names text lines sources taken line there left over =
+    let same = ap (λ (ls : List SourceLine). length ls) (left.same ∙ ap (λ (d : Divided). d.lines) over) in
+    let some = some_left lines taken line there in
+    let size = as_many text (drop taken lines) (drop taken sources) left.left.are in
+    positive (length (divided names text sources).lines) (omega (arith, some, size, same, length-drop taken lines))
+
+-- since it does not begin with a `[`
+pub left_other : (names : EntityNames) (text : List ℕ) (lines : List HeldLine) (sources : List SourceLine) (taken : ℕ)
+    (line : HeldLine) (byte : Option ℕ) → slice_get lines taken ≡ Some line → line.start < line.stop
+    → IsLeftOf names text lines sources taken → byte ≡ slice_get text line.start
+    → not (option_eq nat_eq byte (Some 91)) ≡ true → false ≡ (length (divided names text sources).lines == 0)
+left_other names text lines sources taken line byte there some left is_byte other =
+    let next = next_line lines taken line there in
+    let filled = filled_of text (drop taken lines) (drop taken sources) line next (less_differs some) left.left in
+    left_some names text lines sources taken line there left
+    (none_there names text (drop taken lines) (drop taken sources) filled
+    (no_bracket names text (drop taken lines) (drop taken sources) line next filled
+    (subst (λ (found : Option ℕ). found ≡ Some 91 → ⊥) is_byte (no_bracket_byte byte other))))
+
+-- or since it begins no definition
+pub left_none : (names : EntityNames) (text : List ℕ) (lines : List HeldLine) (sources : List SourceLine) (taken : ℕ)
+    (line : HeldLine) → slice_get lines taken ≡ Some line → line.start < line.stop
+    → IsLeftOf names text lines sources taken → definition_in names (text_of_lines text (drop taken sources)) ≡ None
+    → false ≡ (length (divided names text sources).lines == 0)
+left_none names text lines sources taken line there some left none =
+    let next = next_line lines taken line there in
+    let filled = filled_of text (drop taken lines) (drop taken sources) line next (less_differs some) left.left in
+    left_some names text lines sources taken line there left
+    (none_there names text (drop taken lines) (drop taken sources) filled none)
+
+-- no line is left
+pub left_all : (names : EntityNames) (text : List ℕ) (lines : List HeldLine) (sources : List SourceLine) (taken : ℕ)
+    → length lines ≤ taken → IsLeftOf names text lines sources taken
+    → true ≡ (length (divided names text sources).lines == 0)
+left_all names text lines sources taken all left =
+    let over = none_left names text lines sources taken left.left.are all in
+    let same = ap (λ (ls : List SourceLine). length ls) (left.same ∙ ap (λ (d : Divided). d.lines) over) in
+    let size = as_many text (drop taken lines) (drop taken sources) left.left.are in
+    nothing (length (divided names text sources).lines) (omega (arith, all, size, same, length-drop taken lines))

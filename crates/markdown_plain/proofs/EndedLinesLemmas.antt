@@ -117,8 +117,7 @@ module _ (s : Source) (pass : Pass) (line : Line) (found : code.Reached) (source
       by_table : (last : Option Block) → before.last ≡ last → (table : Bool) → last_is_table last ≡ table
           → GoesOffAs s pass line found before source
       by_table None is table tabled =
-          goes_as before by counted off
-          (next_as_line s pass before source line.start by.stands counted
+          goes_as before by counted off (next_as_line s pass before source line.start by.stands counted
           (subst HasNoTable (sym is) tt)).1
       by_table (Some b) is false tabled =
           goes_as before by counted off

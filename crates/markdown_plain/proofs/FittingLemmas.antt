@@ -1,8 +1,7 @@
 -- Calls that fit: where a builder is after one of them, the next fits.
-use Rattle.std.proofs.Common.{◌≡◌, ℕ, zero, suc, ◌+◌, ◌-◌, ◌≤◌, Bool, true, false, List, [], ◌∷◌, ◌++◌}
-use Rattle.std.proofs.Common.{Option, Some, None, drop, take, refl, sym, ap, ◌∙◌, subst, arith, true≢false}
+use Rattle.std.proofs.Common.{◌≡◌, ℕ, zero, suc, ◌-◌, ◌≤◌, Bool, true, false, List, [], ◌∷◌, ◌++◌, Option, Some, None}
+use Rattle.std.proofs.Common.{drop, take, refl, sym, ap, ◌∙◌, arith, true≢false}
 use Rattle.std.specs.Prelude.{slice_get}
-use Rattle.std.specs.Option.{option_map_or}
 use Rattle.std.specs.Str.{IsCharBoundary, IsUtf8}
 use Rattle.std.proofs.lemmas.Option.{same_Some}
 use Rattle.std.proofs.lemmas.List.{length-take}
@@ -12,7 +11,7 @@ use Rattle.markdown_base.specs.Forest.{Forest, nil, node}
 use Rattle.markdown_base.specs.declared.tag.HeadingLevel.{HeadingLevel}
 use Rattle.markdown_builder.specs.Bodies.{is_leaf}
 use Rattle.markdown_builder.specs.BuilderView.{BuilderView, Opens}
-use Rattle.markdown_builder.specs.EvenRows.{is_in_row, is_table_row}
+use Rattle.markdown_builder.specs.EvenRows.{is_table_row}
 use Rattle.markdown_builder.specs.declared.open_block.OpenBlock.{OpenBlock}
 use Rattle.markdown_builder.specs.Shown.{Shown, chain_of, unnumbered}
 use Rattle.markdown_builder.specs.TreeLevels.{followed_by}
@@ -32,8 +31,8 @@ use Rattle.markdown_block_rules.specs.BlockRules.{Around, block_end, in_no_item,
 use Rattle.markdown_block_rules.specs.BlockRules.{shown_heading}
 use Rattle.markdown_plain.specs.CodeLines.{after_line}
 use Rattle.markdown_plain.specs.Fitting.{GoesOn, stepped}
-use Rattle.markdown_plain.specs.Fits.{AreLinesFrom, IsInLeaf, MayAddLine}
-use Rattle.markdown_plain.specs.Fits.{MayAddAfter, MayAddBefore, MayStep, after_lines}
+use Rattle.markdown_plain.specs.Fits.{AreLinesFrom, IsInLeaf, MayAddLine, MayAddAfter, MayAddBefore, MayStep}
+use Rattle.markdown_plain.specs.Fits.{after_lines}
 use Rattle.markdown_plain.specs.Frames.{Frame}
 use Rattle.markdown_plain.specs.OpenLeaves.{IsOpenIn, is_leaf as is_leaf_kind, leaf_block}
 use Rattle.markdown_plain.specs.OpenedFrames.{around_innermost}
@@ -51,8 +50,7 @@ may_step view to low boundary some =
     record { ahead = (low, boundary); white = λ none. absurd (some none) }
 
 -- a block is open after one was opened
-pub some_opened : (blocks outer : List OpenBlock) (block : OpenBlock) → blocks ≡ outer ++ block ∷ []
-    → blocks ≡ [] → ⊥
+pub some_opened : (blocks outer : List OpenBlock) (block : OpenBlock) → blocks ≡ outer ++ block ∷ [] → blocks ≡ [] → ⊥
 some_opened blocks [] block is none = cc
 some_opened blocks (first ∷ outer) block is none = cc
 
@@ -64,24 +62,14 @@ leaf_is_no_row body.TableHead leaf = absurd (true≢false (sym leaf))
 leaf_is_no_row body.TableRow leaf = absurd (true≢false (sym leaf))
 leaf_is_no_row other leaf = refl
 
--- it is the innermost block of the builder that decides whether a row is open
-row_of : (outer : List OpenBlock) (block : OpenBlock) → is_in_row (outer ++ block ∷ []) ≡ is_table_row block.body
-row_of outer block =
-    ap (λ o. option_map_or (λ (b : OpenBlock). is_table_row b.body) o false) (innermost_of_opened outer block)
-
 -- a builder whose innermost open block is a leaf is in that leaf
 pub in_leaf : (view : BuilderView) (outer : List OpenBlock) (block : OpenBlock) → view.blocks ≡ outer ++ block ∷ []
     → view.leaf ≡ true → is_leaf block.body ≡ true → IsInLeaf view
 in_leaf view outer block blocks leaf is = record {
   leaf = leaf;
   some = some_opened view.blocks outer block blocks;
-  plain = ap is_in_row blocks ∙ (row_of outer block ∙ leaf_is_no_row block.body is);
+  plain = rw (blocks, innermost_of_opened) (leaf_is_no_row block.body is);
 }
-
--- it stays there while more is appended
-stays_in_leaf : (old new : BuilderView) (to : ℕ) → GoesOn old new to → IsInLeaf old → IsInLeaf new
-stays_in_leaf old new to goes inside =
-    subst IsInLeaf (sym goes) (record { leaf = inside.leaf; some = inside.some; plain = inside.plain })
 
 -- a builder is in a leaf, at a byte offset of a text
 pub record IsInLeafAt (text : List ℕ) (at : ℕ) (view : BuilderView) : Type 0 where
@@ -92,36 +80,29 @@ pub record IsInLeafAt (text : List ℕ) (at : ℕ) (view : BuilderView) : Type 0
 -- it is in the leaf that was opened
 pub opened_at : (old now : BuilderView) (b : ItemBody) → Opens old now b → is_leaf b ≡ true
     → IsInLeafAt old.text old.at now
-opened_at old now b opens leaf = record {
-  inside =
-      in_leaf now old.blocks (record { start = old.at; body = b }) (ap (λ (v : BuilderView). v.blocks) opens)
-      (ap (λ (v : BuilderView). v.leaf) opens ∙ leaf) leaf;
-  same = ap (λ (v : BuilderView). v.text) opens;
-  here = ap (λ (v : BuilderView). v.at) opens;
-}
+opened_at old now b opens leaf =
+    rw opens (record { inside = in_leaf _ old.blocks _ refl leaf leaf; same = refl; here = refl })
 
 -- the same after a step
 pub opened_from : (old first now : BuilderView) (at : ℕ) (b : ItemBody) → first ≡ stepped old at → Opens first now b
     → is_leaf b ≡ true → IsInLeafAt old.text at now
-opened_from old first now at b steps opens leaf =
-    opened_at (stepped old at) now b (subst (λ (v : BuilderView). Opens v now b) steps opens) leaf
+opened_from old first now at b steps opens leaf = opened_at (stepped old at) now b (rw steps at opens) leaf
 
 -- more is appended to the leaf
 pub goes_at : (text : List ℕ) (at to : ℕ) (old new : BuilderView) → GoesOn old new to → IsInLeafAt text at old
     → IsInLeafAt text to new
-goes_at text at to old new goes is = record {
-  inside = stays_in_leaf old new to goes is.inside;
-  same = ap (λ (v : BuilderView). v.text) goes ∙ is.same;
-  here = ap (λ (v : BuilderView). v.at) goes;
-}
+goes_at text at to old new goes is =
+    rw goes (record {
+      inside = record { leaf = is.inside.leaf; some = is.inside.some; plain = is.inside.plain };
+      same = is.same;
+      here = refl;
+    })
 
 -- a step ahead of the place fits
 pub step_at : (text : List ℕ) (at to : ℕ) (view : BuilderView) → IsInLeafAt text at view → at ≤ to
     → IsCharBoundary text to → MayStep view to
 step_at text at to view is low boundary =
-    let here = is.here in
-    may_step view to (omega (arith, here, low)) (subst (λ t. IsCharBoundary t to) (sym is.same) boundary)
-    is.inside.some
+    may_step view to (omega (arith, is.here, low)) (rw is.same boundary) is.inside.some
 
 -- a step stays in the leaf
 pub stepped_at : (text : List ℕ) (at to : ℕ) (old new : BuilderView) → new ≡ stepped old to → IsInLeafAt text at old
@@ -131,21 +112,18 @@ stepped_at text at to old new steps is = goes_at text at to old new (rw steps) i
 -- a line fits into the leaf
 pub line_at : (text : List ℕ) (at from to : ℕ) (view : BuilderView) → IsInLeafAt text at view → at ≤ from
     → IsCharBoundary text from → IsCharBoundary text to → MayAddLine view from to
-line_at text at from to view is low boundary next =
-    let here = is.here in
-    record {
-      inside = is.inside;
-      ahead = (omega (arith, here, low), subst (λ t. IsCharBoundary t from) (sym is.same) boundary);
-      next = subst (λ t. IsCharBoundary t to) (sym is.same) next;
-    }
+line_at text at from to view is low boundary next = record {
+  inside = is.inside;
+  ahead = (omega (arith, is.here, low), rw is.same boundary);
+  next = rw is.same next;
+}
 
 -- a line fits that goes on from there
 pub goes_on_fits : (old new : BuilderView) (at from to : ℕ) → GoesOn old new at → IsInLeaf old → at ≤ from
     → IsCharBoundary old.text from → IsCharBoundary old.text to → MayAddLine new from to
 goes_on_fits old new at from to goes inside low boundary next =
     line_at old.text at from to new
-    (goes_at old.text old.at at old new goes (record { inside = inside; same = refl; here = refl })) low boundary
-    next
+    (goes_at old.text old.at at old new goes (record { inside = inside; same = refl; here = refl })) low boundary next
 
 -- ---- lines of code
 
@@ -159,39 +137,18 @@ pub comes_next : (text : List ℕ) (from : ℕ) (lines : List HeldLine) (number 
     → AreLinesFrom text from lines → slice_get lines number ≡ Some line → ComesNext text from lines number line
 comes_next text from [] number line are e = absurd (grind (arith, e))
 comes_next text from (first ∷ lines) zero line are e =
-    subst (λ (l : HeldLine). ComesNext text from (first ∷ lines) zero l) (same_Some first line e)
-    (record { low = are.0; boundary = are.1; next = are.2 })
+    rw (← same_Some first line e) (record { low = are.0; boundary = are.1; next = are.2 })
 comes_next text from (first ∷ lines) (suc number) line are e =
-    let rest = comes_next text (after_line first.start first.next) lines number line are.3 e in
-    record { low = rest.low; boundary = rest.boundary; next = rest.next }
-
--- after a line of this number, the place is where it ends
-after_next : (from : ℕ) (lines : List HeldLine) (number : ℕ) (line : HeldLine) → slice_get lines number ≡ Some line
-    → after_lines from (take (suc number) lines) ≡ after_line line.start line.next
-after_next from [] number line e = absurd (grind (arith, e))
-after_next from (first ∷ lines) zero line e =
-    ap (λ (l : HeldLine). after_line l.start l.next) (same_Some first line e)
-after_next from (first ∷ lines) (suc number) line e =
-    after_next (after_line first.start first.next) lines number line e
-
-pub after_one_more : (from : ℕ) (lines : List HeldLine) (number : ℕ) (line : HeldLine)
-    → slice_get lines number ≡ Some line
-    → after_lines from (take (number + 1) lines) ≡ after_line line.start line.next
-after_one_more from lines number line e =
-    let one : number + 1 ≡ suc number = omega arith in
-    ap (λ n. after_lines from (take n lines)) one ∙ after_next from lines number line e
+    let rest = comes_next text (after_line first.start first.next) lines number line are.3 e in assumption (rest)
 
 -- a line more fits after these
 lines_more : (text : List ℕ) (from : ℕ) (lines : List HeldLine) (line : HeldLine) → AreLinesFrom text from lines
     → after_lines from lines ≤ line.start → IsCharBoundary text line.start → IsCharBoundary text line.next
     → AreLinesFrom text from (lines ++ line ∷ [])
 lines_more text from [] line are low boundary next = (low, boundary, next, tt)
-lines_more text from (first ∷ lines) line are low boundary next = (
-  are.0,
-  are.1,
-  are.2,
-  lines_more text (after_line first.start first.next) lines line are.3 low boundary next,
-)
+lines_more text from (first ∷ lines) line are low boundary next =
+    let more = lines_more text (after_line first.start first.next) lines line are.3 low boundary next in
+    (are.0, are.1, are.2, more)
 
 after_more : (from : ℕ) (lines : List HeldLine) (line : HeldLine)
     → after_lines from (lines ++ line ∷ []) ≡ after_line line.start line.next
@@ -202,15 +159,13 @@ after_more from (first ∷ lines) line = after_more (after_line first.start firs
 pub held_fits : (view : BuilderView) (lines : List HeldLine) (line : HeldLine)
     → MayAddAfter view lines line.start line.next → line.start ≤ line.next
     → MayAddBefore view (lines ++ line ∷ []) line.next
-held_fits view lines line may ordered =
-    let end = after_more view.at lines line in
-    record {
-      may = record {
-        inside = may.before.may.inside;
-        are = lines_more view.text view.at lines line may.before.may.are may.before.low may.boundary may.next;
-      };
-      low = omega (arith, end, ordered);
-    }
+held_fits view lines line may ordered = record {
+  may = record {
+    inside = may.before.may.inside;
+    are = lines_more view.text view.at lines line may.before.may.are may.before.low may.boundary may.next;
+  };
+  low = omega (arith, after_more view.at lines line, ordered);
+}
 
 -- ---- space
 
@@ -222,26 +177,17 @@ space_ahead text position stop most read utf8 is boundary =
     let within = space_within text position.at utf8 most (left_from text position stop)
     (record { own = left_from_is_of text position stop _ refl; boundary = boundary; low = omega arith }) in
     let same : (leading_space most (left_from text position stop)).after.scanned ≡ read.after.at =
-    ap (λ (left : LineLeft). left.scanned) (sym is.after) in (
-      subst (IsCharBoundary text) same within.boundary,
-      subst (λ n. position.at ≤ n) same within.low,
-    )
+    ap (λ (left : LineLeft). left.scanned) (sym is.after) in
+    (rw same at within.boundary, rw same at within.low)
 
 -- it ends in its line
 pub space_stops : (text : List ℕ) (position : Position) (stop most : ℕ) (read : Space)
     → IsSpaceAt text position stop most read → position.at ≤ stop → read.after.at ≤ stop
 space_stops text position stop most read is within =
-    let l : SourceLine = record {
-      left = left_from text position stop;
-      next = stop;
-      outermost = true;
-      indent = None;
-    } in
-    let after = cut_within most l in
+    let l : SourceLine = record { left = left_from text position stop; next = stop; outermost = true; indent = None } in
     let same : read.after.at ≡ (leading_space most (left_from text position stop)).after.scanned =
     ap (λ (left : LineLeft). left.scanned) is.after in
-    let size = length-take (stop - position.at) (drop position.at text) in
-    omega (arith, after, same, size, within)
+    omega (arith, cut_within most l, same, length-take (stop - position.at) (drop position.at text), within)
 
 -- ---- leaves that are open
 
@@ -298,8 +244,6 @@ unfolding first_is_row
 open_in_leaf s view frames inside b leaf is = record {
   leaf = is.leaf;
   some = some_opened view.blocks is.outer is.block is.blocks;
-  plain = ap is_in_row is.blocks
-      ∙ (row_of is.outer is.block
-      ∙ (sym (same_row is.block.body)
-      ∙ (ap first_is_row is.shown ∙ blocks_are_no_row s (around_innermost in_no_item frames) b leaf)));
+  plain = rw (is.blocks, innermost_of_opened) (sym (same_row is.block.body) ∙ (ap first_is_row is.shown
+      ∙ blocks_are_no_row s (around_innermost in_no_item frames) b leaf));
 }

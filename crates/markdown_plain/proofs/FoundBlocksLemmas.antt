@@ -1,6 +1,6 @@
 -- What a reader of the rest of a line finds is what the line begins, as the definition says.
-use Rattle.std.proofs.Common.{◌≡◌, ℕ, ◌+◌, ◌&&◌, ◌||◌, ◌==◌, Bool, true, false, List, Option, Some, None, refl}
-use Rattle.std.proofs.Common.{sym, ap, ◌∙◌}
+use Rattle.std.proofs.Common.{◌≡◌, ℕ, ◌+◌, ◌&&◌, ◌||◌, ◌==◌, Bool, true, false, List, Option, Some, None, refl, sym, ap}
+use Rattle.std.proofs.Common.{◌∙◌}
 use Rattle.std.proofs.lemmas.Option.{none-some}
 use Rattle.std.specs.Prelude.{if◌then◌else◌, unwrap_or}
 use Rattle.std.specs.List.{list_all, prefix_len}
@@ -14,13 +14,12 @@ use Rattle.markdown_base.specs.declared.tag.MetadataBlockKind.TheVariants as met
 use Rattle.markdown_scan.specs.LineStart.{LineLeft, leading_space}
 use Rattle.markdown_lines.specs.BlockBeginnings as beginning
 use Rattle.markdown_base.specs.Source.{Source}
-use Rattle.markdown_lines.specs.BlockBeginnings.{Beginning, begins, begins_after, is_paragraph}
-use Rattle.markdown_lines.specs.BlockBeginnings.{metadata_begun, metadata_in_line}
+use Rattle.markdown_lines.specs.BlockBeginnings.{Beginning, begins, begins_after, is_paragraph, metadata_begun}
+use Rattle.markdown_lines.specs.BlockBeginnings.{metadata_in_line}
 use Rattle.markdown_lines.specs.BlockStarts.{IsSameLine, begins_unless_blank, beginning_found, left_at, line_at}
 use Rattle.markdown_lines.specs.BlockStarts.{source_read}
 use Rattle.markdown_lines.specs.Lines.{is_space_or_tab}
-use Rattle.markdown_lines.specs.MetadataBlocks.{are_of_metadata, line_opens, lines_at, metadata_opened}
-use Rattle.markdown_lines.specs.MetadataBlocks.{opened_before}
+use Rattle.markdown_lines.specs.MetadataBlocks.{are_of_metadata, line_opens, lines_at, metadata_opened, opened_before}
 use Rattle.markdown_lines.specs.Positions.{left_from}
 use Rattle.markdown_lines.specs.SourceLines.{SourceLine, is_blank_rest}
 use Rattle.markdown_lines.specs.declared.block_start.Before.{Before}
@@ -62,35 +61,16 @@ left_same s rest new source same left = record {
 
 inside_same : (s : Source) (pass : Pass) (rest : LineRest) (new : LineReader) (frames : List Frame)
     (source : SourceLine) (blocks : Forest Block) → IsSameLine rest.reader new
-    → IsInside s pass rest frames source blocks
-    → IsInside s pass (record rest { reader = new }) frames source blocks
-inside_same s pass rest new frames source blocks same state = record {
-  opened = state.opened;
-  left = left_same s rest new source same state.left;
-  inner = state.inner;
-  depth = state.depth;
-  before = state.before;
-  whole = state.whole;
-  items = state.items;
-  ahead = state.ahead;
-}
+    → IsInside s pass rest frames source blocks → IsInside s pass (record rest { reader = new }) frames source blocks
+inside_same s pass rest new frames source blocks same state =
+    assumption (left_same s rest new source same state.left)
 
 first_same : (s : Source) (pass : Pass) (rest : LineRest) (new : LineReader) (before : LineBefore)
     (line source : SourceLine) (blocks : Forest Block) → IsSameLine rest.reader new
     → IsFirst s pass rest before line source blocks
     → IsFirst s pass (record rest { reader = new }) before line source blocks
-first_same s pass rest new before line source blocks same state = record {
-  untabled = state.untabled;
-  holds = state.holds;
-  is = state.is;
-  reached = state.reached;
-  left = left_same s rest new source same state.left;
-  depth = state.depth;
-  paragraph = state.paragraph;
-  filled = state.filled;
-  over = state.over;
-  whole = state.whole;
-}
+first_same s pass rest new before line source blocks same state =
+    assumption (left_same s rest new source same state.left)
 
 here_same : (s : Source) (pass : Pass) (rest : LineRest) (new : LineReader) (turn : Turn) (source : SourceLine)
     (blocks : Forest Block) → IsSameLine rest.reader new → IsHere s pass rest turn source blocks
@@ -105,6 +85,12 @@ pub here_left : (s : Source) (pass : Pass) (rest : LineRest) (turn : Turn) (sour
     (blocks : Forest Block) → IsHere s pass rest turn source blocks → IsLeft s rest source
 here_left s pass rest (first before line) source blocks state = state.left
 here_left s pass rest (later frames) source blocks state = state.left
+
+-- the pass reads the text of which it stands for blocks
+pub here_text : (s : Source) (pass : Pass) (rest : LineRest) (turn : Turn) (source : SourceLine) (blocks : Forest Block)
+    → IsHere s pass rest turn source blocks → pass.placing.builder.text ≡ s.text
+here_text s pass rest (first before line) source blocks state = ap (λ (s : Source). s.text) state.holds.source
+here_text s pass rest (later frames) source blocks state = ap (λ (s : Source). s.text) state.opened.source
 
 -- ---- what was found
 
@@ -163,8 +149,7 @@ begins_or s before left opens =
 
 -- what two lines begin of which the same is left
 same_begins : (s : Source) (before : Before) (one other : SourceLine) → one.left ≡ other.left → one.next ≡ other.next
-    → (any_metadata s.syntax ≡ true → one.outermost ≡ other.outermost)
-    → begins s before one ≡ begins s before other
+    → (any_metadata s.syntax ≡ true → one.outermost ≡ other.outermost) → begins s before one ≡ begins s before other
 same_begins s before one other left next outermost =
     ap (λ (l : LineLeft). begins s before
     (record { left = l; next = one.next; outermost = one.outermost; indent = None })) left

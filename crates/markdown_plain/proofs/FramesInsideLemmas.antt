@@ -1,9 +1,13 @@
 -- The innermost of the open containers, and the open blocks that they are.
-use Rattle.std.proofs.Common.{◌≡◌, ℕ, List, [], ◌∷◌, ◌++◌, Bool, true, false, refl, sym, ap, ◌∙◌}
+use Rattle.std.proofs.Common.{◌≡◌, ℕ, List, [], ◌∷◌, ◌++◌, Bool, true, false, Some, None, refl, sym, ◌∙◌}
 use native.Mathlib.Numerals.{unary_clauses}
 use Rattle.std.proofs.lemmas.Bool.{true≢false}
+use Rattle.markdown_base.specs.declared.index.CowIndex.{CowIndex}
 use Rattle.markdown_base.specs.declared.item.ItemBody.{ItemBody}
+use Rattle.markdown_base.specs.declared.item.ItemBody.TheVariants as item
+use Rattle.markdown_base.specs.declared.tag.BlockQuoteKind.{BlockQuoteKind}
 use Rattle.markdown_builder.specs.declared.open_block.OpenBlock.{OpenBlock}
+use Rattle.markdown_lines.specs.declared.list_marker.ListMarker.{ListMarker}
 use Rattle.markdown_block_rules.specs.BlockGrowth as was
 use Rattle.markdown_block_rules.specs.BlockGrowth.{Kind}
 use Rattle.markdown_plain.specs.ListLooseness as body
@@ -20,8 +24,7 @@ excludes : (one other : Kind → Bool) → ((kind : Kind) → one kind ≡ true 
 excludes one other apart [] is = refl
 excludes one other apart (f ∷ []) is = apart f.block.kind is
 excludes one other apart (f ∷ g ∷ frames) is =
-    innermost_inner other f g frames
-    ∙ excludes one other apart (g ∷ frames) (sym (innermost_inner one f g frames) ∙ is)
+    rw (innermost_inner other f g frames) (excludes one other apart (g ∷ frames) (rw innermost_inner at is))
 
 pub item_no_list : (kind : Kind) → is_item kind ≡ true → is_list kind ≡ false
 item_no_list (was.list_container marker) is = absurd (true≢false (sym is))
@@ -49,10 +52,13 @@ inner_list_no_quote frames is = excludes is_list is_quote list_no_quote frames i
 
 -- ---- the open blocks
 
--- a test of bodies says of the innermost open block what one of kinds does
-inner_alike : (test : ItemBody → Bool) (of : Kind → Bool)
-    → ((texts : List (List ℕ)) (kind : Kind) (b : ItemBody) → IsBodyOf texts kind b → test b ≡ of kind)
-    → (texts : List (List ℕ)) (blocks : List OpenBlock) (frames : List Frame) → AreOpen texts blocks frames
+-- a test of bodies is one of kinds
+abbrev pub TestsAlike : (ItemBody → Bool) → (Kind → Bool) → Type 0
+TestsAlike test of = (texts : List (List ℕ)) (kind : Kind) (b : ItemBody) → IsBodyOf texts kind b → test b ≡ of kind
+
+-- it says of the innermost open block what one of kinds does
+pub inner_alike : (test : ItemBody → Bool) (of : Kind → Bool) → TestsAlike test of → (texts : List (List ℕ))
+    (blocks : List OpenBlock) (frames : List Frame) → AreOpen texts blocks frames
     → block.innermost_is test blocks ≡ innermost_is of frames
 inner_alike test of alike texts [] [] these = refl
 inner_alike test of alike texts [] (f ∷ frames) these = absurd these
@@ -64,23 +70,25 @@ inner_alike test of alike texts (b ∷ c ∷ blocks) (f ∷ g ∷ frames) these 
     let h = inner_alike test of alike texts (c ∷ blocks) (g ∷ frames) these.1 in
     simp unary_clauses (simp unary_clauses at h)
 
-list_alike : (texts : List (List ℕ)) (kind : Kind) (b : ItemBody) → IsBodyOf texts kind b
-    → block.is_list b ≡ is_list kind
-list_alike texts was.quote_container b is = ap block.is_list is
-list_alike texts (was.alert_container kind) b is = ap block.is_list is
-list_alike texts (was.list_container marker) b is = ap block.is_list is
-list_alike texts (was.item_container indent) b is = ap block.is_list is
-list_alike texts (was.footnote_container label) b is = ap block.is_list is.1
-list_alike texts other b is = absurd is
+-- it is one where it is so for the body of each container
+pub tests_alike : (test : ItemBody → Bool) (of : Kind → Bool) → test (item.BlockQuote None) ≡ of was.quote_container
+    → ((kind : BlockQuoteKind) → test (item.BlockQuote (Some kind)) ≡ of (was.alert_container kind))
+    → ((m : ListMarker) → test (item.List true m.character m.first) ≡ of (was.list_container m))
+    → ((indent : ℕ) → test (item.ListItem indent) ≡ of (was.item_container indent))
+    → ((ix : CowIndex) (label : List ℕ) → test (item.FootnoteDefinition ix) ≡ of (was.footnote_container label))
+    → TestsAlike test of
+tests_alike test of quote alert list one note texts was.quote_container b is = rw is quote
+tests_alike test of quote alert list one note texts (was.alert_container kind) b is = rw is (alert kind)
+tests_alike test of quote alert list one note texts (was.list_container marker) b is = rw is (list marker)
+tests_alike test of quote alert list one note texts (was.item_container indent) b is = rw is (one indent)
+tests_alike test of quote alert list one note texts (was.footnote_container label) b is = rw is.1 (note is.0 label)
+tests_alike test of quote alert list one note texts other b is = absurd is
 
-item_alike : (texts : List (List ℕ)) (kind : Kind) (b : ItemBody) → IsBodyOf texts kind b
-    → body.is_item b ≡ is_item kind
-item_alike texts was.quote_container b is = ap body.is_item is
-item_alike texts (was.alert_container kind) b is = ap body.is_item is
-item_alike texts (was.list_container marker) b is = ap body.is_item is
-item_alike texts (was.item_container indent) b is = ap body.is_item is
-item_alike texts (was.footnote_container label) b is = ap body.is_item is.1
-item_alike texts other b is = absurd is
+pub list_alike : TestsAlike block.is_list is_list
+list_alike = tests_alike block.is_list is_list refl (λ kind. refl) (λ m. refl) (λ indent. refl) (λ ix label. refl)
+
+pub quote_alike : TestsAlike block.is_quote is_quote
+quote_alike = tests_alike block.is_quote is_quote refl (λ kind. refl) (λ m. refl) (λ indent. refl) (λ ix label. refl)
 
 pub list_of_open : (texts : List (List ℕ)) (blocks : List OpenBlock) (frames : List Frame) → AreOpen texts blocks frames
     → block.innermost_is block.is_list blocks ≡ innermost_is is_list frames
@@ -88,7 +96,10 @@ list_of_open texts blocks frames these = inner_alike block.is_list is_list list_
 
 pub item_of_open : (texts : List (List ℕ)) (blocks : List OpenBlock) (frames : List Frame) → AreOpen texts blocks frames
     → block.innermost_is body.is_item blocks ≡ innermost_is is_item frames
-item_of_open texts blocks frames these = inner_alike body.is_item is_item item_alike texts blocks frames these
+item_of_open texts blocks frames these =
+    inner_alike body.is_item is_item
+    (tests_alike body.is_item is_item refl (λ kind. refl) (λ m. refl) (λ indent. refl) (λ ix label. refl)) texts blocks
+    frames these
 
 -- the last of some open containers is the innermost
 pub inner_last : (test : Kind → Bool) (frames : List Frame) (f : Frame)
@@ -97,21 +108,9 @@ inner_last test [] f = refl
 inner_last test (g ∷ []) f = refl
 inner_last test (g ∷ h ∷ frames) f = innermost_inner test g h (frames ++ f ∷ []) ∙ inner_last test (h ∷ frames) f
 
--- the innermost open block is a list where the innermost container is
-pub list_of_last : (texts : List (List ℕ)) (blocks : List OpenBlock) (frames : List Frame) (f : Frame)
-    → AreOpen texts blocks (frames ++ f ∷ []) → block.innermost_is block.is_list blocks ≡ is_list f.block.kind
-list_of_last texts blocks frames f these =
-    list_of_open texts blocks (frames ++ f ∷ []) these ∙ inner_last is_list frames f
-
 -- a list is not directly in a list
-no_list_around : (frames : List Frame) (f : Frame) → AreNested (frames ++ f ∷ []) → is_list f.block.kind ≡ true
+pub no_list_around : (frames : List Frame) (f : Frame) → AreNested (frames ++ f ∷ []) → is_list f.block.kind ≡ true
     → innermost_is is_list frames ≡ false
 no_list_around [] f nested list = refl
 no_list_around (g ∷ []) f nested list = nested.0 ∙ list_no_item f.block.kind list
-no_list_around (g ∷ h ∷ frames) f nested list =
-    innermost_inner is_list g h frames ∙ no_list_around (h ∷ frames) f nested.1 list
-
--- outside a list is no list
-pub no_list_outside : (frames : List Frame) (f : Frame) → AreNested (frames ++ f ∷ [])
-    → innermost_is is_list (frames ++ f ∷ []) ≡ true → innermost_is is_list frames ≡ false
-no_list_outside frames f nested list = no_list_around frames f nested (sym (inner_last is_list frames f) ∙ list)
+no_list_around (g ∷ h ∷ frames) f nested list = rw innermost_inner (no_list_around (h ∷ frames) f nested.1 list)

@@ -1,12 +1,13 @@
 -- What a line makes of blocks of which some containers on the right edge are open: the outer ones go on in it, and what
 -- is left of it inside them goes on with the blocks in the innermost of these, begins an item, or begins other blocks.
-use Rattle.std.proofs.Common.{not}
-use Rattle.std.proofs.Common.{◌≡◌, ℕ, suc, Bool, true, false, ◌&&◌, List, [], ◌∷◌, ◌++◌, Option, Some, None, length}
-use Rattle.std.proofs.Common.{map, refl, sym, ap, ◌∙◌, subst, arith}
+use Rattle.std.proofs.Common.{not, ◌≡◌, ℕ, Bool, true, false, ◌&&◌, List, [], ◌∷◌, ◌++◌, Option, Some, None, map, refl}
+use Rattle.std.proofs.Common.{sym, ap, ◌∙◌}
+use native.Mathlib.Numerals.{unary_clauses}
+use Rattle.std.proofs.Math.Bool.{and-false}
 use Rattle.std.proofs.lemmas.Bool.{true≢false}
 use Rattle.std.proofs.lemmas.Option.{none-some, same_Some}
-use Rattle.std.specs.Prelude.{unwrap_or, if◌then◌else◌, slice_get, ◌-◌}
-use Rattle.std.specs.Option.{option_map, option_map_or}
+use Rattle.std.specs.Prelude.{unwrap_or, if◌then◌else◌}
+use Rattle.std.specs.Option.{option_map}
 use Rattle.markdown_base.specs.Forest.{Forest, nil, node}
 use Rattle.markdown_builder.specs.TreeLevels.{followed_by}
 use Rattle.markdown_scan.specs.ContainerParts.{past_footnote, past_indent, past_quote}
@@ -16,10 +17,9 @@ use Rattle.markdown_base.specs.Source.{Source}
 use Rattle.markdown_lines.specs.SourceLines.{SourceLine, is_blank_rest, rest_inside}
 use Rattle.markdown_block_rules.specs.BlockGrowth as was
 use Rattle.markdown_block_rules.specs.BlockGrowth.{Block, Kind, block_with, container_with, goes_on, is_nil, lazily}
-use Rattle.markdown_block_rules.specs.BlockGrowth.{line_block, with_lazy}
-use Rattle.markdown_block_rules.specs.BlockGrowth.{with_line, with_rest}
+use Rattle.markdown_block_rules.specs.BlockGrowth.{line_block, with_lazy, with_line, with_rest}
 use Rattle.markdown_plain.specs.Frames.{AreContainers, AreNested, Frame, IsContainer, forgotten, innermost_is}
-use Rattle.markdown_plain.specs.Frames.{inside_container, is_item, is_list, rebuilt, touched}
+use Rattle.markdown_plain.specs.Frames.{inside_container, is_list, rebuilt, touched}
 
 -- ---- frames
 
@@ -27,8 +27,7 @@ use Rattle.markdown_plain.specs.Frames.{inside_container, is_item, is_list, rebu
 pub rebuilt_in : (outer inner : List Frame) (inside : Forest Block)
     → rebuilt (outer ++ inner) inside ≡ rebuilt outer (rebuilt inner inside)
 rebuilt_in [] inner inside = refl
-rebuilt_in (f ∷ outer) inner inside =
-    ap (λ (r : Forest Block). followed_by f.before (node f.block r nil)) (rebuilt_in outer inner inside)
+rebuilt_in (f ∷ outer) inner inside = rw (rebuilt_in outer inner inside) refl
 
 -- the innermost open container is closed
 pub rebuilt_more : (frames : List Frame) (f : Frame) (inside : Forest Block)
@@ -38,11 +37,7 @@ rebuilt_more frames f inside = rebuilt_in frames (f ∷ []) inside
 -- the innermost of some open containers is that of the inner ones
 pub innermost_inner : (test : Kind → Bool) (f g : Frame) (frames : List Frame)
     → innermost_is test (f ∷ g ∷ frames) ≡ innermost_is test (g ∷ frames)
-innermost_inner test f g frames =
-    let all : suc (suc (length frames)) - 1 ≡ suc (length frames) = omega arith in
-    let inner : length frames ≡ suc (length frames) - 1 = omega arith in
-    ap (λ n. option_map_or (λ (h : Frame). test h.block.kind) (slice_get (f ∷ g ∷ frames) n) false) all
-    ∙ ap (λ n. option_map_or (λ (h : Frame). test h.block.kind) (slice_get (g ∷ frames) n) false) inner
+innermost_inner test f g frames = simp unary_clauses refl
 
 -- open containers of which the innermost passes a test of its kind
 pub record Innermost (test : Kind → Bool) (frames : List Frame) : Type 0 where
@@ -56,13 +51,8 @@ pub innermost_apart : (test : Kind → Bool) (frames : List Frame) → innermost
 innermost_apart test [] passes = absurd (true≢false (sym passes))
 innermost_apart test (f ∷ []) passes = record { outer = []; last = f; are = refl; passes = passes }
 innermost_apart test (f ∷ g ∷ frames) passes =
-    let inner = innermost_apart test (g ∷ frames) (sym (innermost_inner test f g frames) ∙ passes) in
-    record {
-      outer = f ∷ inner.outer;
-      last = inner.last;
-      are = ap (λ (fs : List Frame). f ∷ fs) inner.are;
-      passes = inner.passes;
-    }
+    let inner = innermost_apart test (g ∷ frames) (rw innermost_inner at passes) in
+    record { outer = f ∷ inner.outer; last = inner.last; are = rw inner.are refl; passes = inner.passes }
 
 -- the marker of a list
 pub record HasMarker (kind : Kind) : Type 0 where
@@ -85,14 +75,6 @@ pub outer_nested : (outer inner : List Frame) → AreNested (outer ++ inner) →
 outer_nested [] inner nested = tt
 outer_nested (f ∷ []) inner nested = tt
 outer_nested (f ∷ g ∷ outer) inner nested = (nested.0, outer_nested (g ∷ outer) inner nested.1)
-
--- a list is in no list
-pub around_list : (outer : List Frame) (f : Frame) (marker : ListMarker) → f.block.kind ≡ was.list_container marker
-    → AreNested (outer ++ f ∷ []) → innermost_is is_list outer ≡ false
-around_list [] f marker is nested = refl
-around_list (g ∷ []) f marker is nested = nested.0 ∙ ap is_item is
-around_list (g ∷ h ∷ outer) f marker is nested =
-    innermost_inner is_list g h outer ∙ around_list (h ∷ outer) f marker is nested.1
 
 -- ---- the last block
 
@@ -148,11 +130,10 @@ pub container_goes_on : (s : Source) (f : Frame) (below : Forest Block) (l : Sou
     → goes_on s (forgotten f below) l
     ≡ option_map (forgotten (touched l f)) (container_with s l below (goes_on s below) f.block.kind)
 container_goes_on s f below l is =
-    goes_on_last s f.before f.block below l
-    ∙ (ap (option_map (followed_by f.before))
-    (block_goes_on s below l f.block.start f.block.first f.block.last f.block.kind is)
-    ∙ mapped_twice (followed_by f.before) (λ (r : Forest Block). node (touched l f).block r nil)
-    (container_with s l below (goes_on s below) f.block.kind))
+    rw (
+      goes_on_last s f.before f.block below l,
+      block_goes_on s below l f.block.start f.block.first f.block.last f.block.kind is,
+    ) (mapped_twice (followed_by f.before) (λ (r : Forest Block). node (touched l f).block r nil) _)
 
 -- a container that ends with a paragraph goes on lazily as what is in it does
 block_goes_lazily : (below : Forest Block) (l : SourceLine) (start first last : ℕ) (kind : Kind) → IsContainer kind
@@ -170,10 +151,10 @@ block_goes_lazily below l start first last other is = absurd is
 pub container_goes_lazily : (f : Frame) (below : Forest Block) (l : SourceLine) → IsContainer f.block.kind
     → with_lazy l (forgotten f below) ≡ option_map (forgotten (touched l f)) (with_lazy l below)
 container_goes_lazily f below l is =
-    with_lazy_last f.before f.block below l
-    ∙ (ap (option_map (followed_by f.before))
-    (block_goes_lazily below l f.block.start f.block.first f.block.last f.block.kind is)
-    ∙ mapped_twice (followed_by f.before) (λ (r : Forest Block). node (touched l f).block r nil) (with_lazy l below))
+    rw (
+      with_lazy_last f.before f.block below l,
+      block_goes_lazily below l f.block.start f.block.first f.block.last f.block.kind is,
+    ) (mapped_twice (followed_by f.before) (λ (r : Forest Block). node (touched l f).block r nil) _)
 
 -- ---- one container
 
@@ -203,21 +184,20 @@ rest_missing s below l (Some left) takes = absurd (none-some (rest_inside left l
 rest_off : (s : Source) (below : Forest Block) (l : SourceLine) (ending : Bool) (left : Option LineLeft)
     → (if is_blank_rest l && ending then None else option_map (λ left. rest_inside left l) left) ≡ None
     → (if is_blank_rest l && ending then None else with_rest s l below (goes_on s below) left) ≡ lazily s l below
-rest_off s below l ending left takes = decided (is_blank_rest l) ending refl takes
+rest_off s below l true left takes = decided (is_blank_rest l) refl takes
   where
-    decided : (blank ending : Bool) → is_blank_rest l ≡ blank
-        → (if blank && ending then None else option_map (λ left. rest_inside left l) left) ≡ None
-        → (if blank && ending then None else with_rest s l below (goes_on s below) left) ≡ lazily s l below
-    decided true true is takes = rw is refl
-    decided true false is takes = rest_missing s below l left takes
-    decided false ending is takes = rest_missing s below l left takes
+    decided : (blank : Bool) → is_blank_rest l ≡ blank
+        → (if blank && true then None else option_map (λ left. rest_inside left l) left) ≡ None
+        → (if blank && true then None else with_rest s l below (goes_on s below) left) ≡ lazily s l below
+    decided true is takes = rw is refl
+    decided false is takes = rest_missing s below l left takes
+rest_off s below l false left takes = rw and-false (rest_missing s below l left (rw and-false at takes))
 
 -- a container other than a list that takes its part of a line goes on, with what is left of the line in it
 takes_rest : (s : Source) (below : Forest Block) (l rest : SourceLine) (kind : Kind) → IsContainer kind
     → is_list kind ≡ false → inside_container s l (is_nil below) kind ≡ Some rest
     → container_with s l below (goes_on s below) kind ≡ Some (with_line s below rest)
-takes_rest s below l rest was.quote_container is plain takes =
-    rest_taken s below l rest (past_quote l.left) takes
+takes_rest s below l rest was.quote_container is plain takes = rest_taken s below l rest (past_quote l.left) takes
 takes_rest s below l rest (was.alert_container kind) is plain takes =
     rest_taken s below l rest (past_quote l.left) takes
 takes_rest s below l rest (was.list_container marker) is plain takes = absurd (true≢false plain)
@@ -259,8 +239,7 @@ module _ {A : Type 0} (part : SourceLine → A) (same : (left : LineLeft) (l : S
   left_kept : (l rest : SourceLine) (left : Option LineLeft) → option_map (λ left. rest_inside left l) left ≡ Some rest
       → part rest ≡ part l
   left_kept l rest None takes = absurd (none-some rest takes)
-  left_kept l rest (Some left) takes =
-      ap part (sym (same_Some (rest_inside left l) rest takes)) ∙ same left l
+  left_kept l rest (Some left) takes = ap part (sym (same_Some (rest_inside left l) rest takes)) ∙ same left l
 
   part_kept : (l rest : SourceLine) (ends : Bool) (left : Option LineLeft)
       → (if ends then None else option_map (λ left. rest_inside left l) left) ≡ Some rest → part rest ≡ part l
@@ -279,11 +258,6 @@ module _ {A : Type 0} (part : SourceLine → A) (same : (left : LineLeft) (l : S
       part_kept l rest (is_blank_rest l && empty) (past_indent indent l.left) takes
   rest_kept s empty l rest other takes = ap part (sym (same_Some l rest takes))
 
--- such as where the line ends
-pub rest_next : (s : Source) (empty : Bool) (l rest : SourceLine) (kind : Kind)
-    → inside_container s l empty kind ≡ Some rest → rest.next ≡ l.next
-rest_next s empty l rest kind takes = rest_kept (λ (l : SourceLine). l.next) (λ left l. refl) s empty l rest kind takes
-
 -- ---- the containers that go on
 
 -- open containers all go on in a line, of which this is left in the innermost, which holds these blocks
@@ -296,23 +270,18 @@ AllGoOn s (f ∷ frames) inside l rest =
 -- containers are touched alike by what is left of a line
 pub touched_alike : (l m : SourceLine) (frames : List Frame) → m.next ≡ l.next
     → map (touched m) frames ≡ map (touched l) frames
-touched_alike l m frames next =
-    ap (λ n. map (λ (f : Frame). record f { block = record f.block { last = n } }) frames) next
+touched_alike l m frames next = rw next refl
 
 goes_inside : (s : Source) (inside : Forest Block) (l rest : SourceLine) (f : Frame) (frames : List Frame)
     → AreContainers (f ∷ frames) → AreNested (f ∷ frames) → innermost_is is_list (f ∷ frames) ≡ false
-    → AllGoOn s (f ∷ frames) inside l rest
-    → goes_on s (rebuilt (f ∷ frames) inside) l
+    → AllGoOn s (f ∷ frames) inside l rest → goes_on s (rebuilt (f ∷ frames) inside) l
     ≡ Some (rebuilt (map (touched l) (f ∷ frames)) (with_line s inside rest))
 goes_inside s inside l rest f [] are nested plain (m, takes, same) =
-    container_goes_on s f inside l are.0
-    ∙ (ap (option_map (forgotten (touched l f))) (takes_rest s inside l m f.block.kind are.0 plain takes)
-    ∙ ap (λ r. Some (forgotten (touched l f) (with_line s inside r))) same)
+    rw (container_goes_on s f inside l are.0, takes_rest s inside l m f.block.kind are.0 plain takes, same) refl
 goes_inside s inside l rest f (g ∷ frames) are nested plain (m, takes, more) =
-    container_goes_on s f (rebuilt (g ∷ frames) inside) l are.0
-    ∙ ap (option_map (forgotten (touched l f))) (decided (is_list f.block.kind) refl
-    (λ n all. goes_inside s inside n rest g frames are.1 nested.1 (sym (innermost_inner is_list f g frames) ∙ plain)
-    all))
+    rw (container_goes_on s f (rebuilt (g ∷ frames) inside) l are.0) (ap (option_map (forgotten (touched l f)))
+    (decided (is_list f.block.kind) refl
+    (λ n all. goes_inside s inside n rest g frames are.1 nested.1 (rw innermost_inner at plain) all)))
   where
     below : Forest Block
     below = rebuilt (g ∷ frames) inside
@@ -325,19 +294,17 @@ goes_inside s inside l rest f (g ∷ frames) are nested plain (m, takes, more) =
         → container_with s l below (goes_on s below) f.block.kind ≡ Some (grown l)
     decided true list inner =
         let same = list_takes s (is_nil below) l m f.block.kind list takes in
-        list_grows s below (grown l) l f.block.kind list
-        (inner l (subst (λ n. AllGoOn s (g ∷ frames) inside n rest) (sym same) more))
+        list_grows s below (grown l) l f.block.kind list (inner l (rw same more))
     decided false list inner =
         takes_rest s below l m f.block.kind are.0 list takes
         ∙ (ap (λ o. Some (unwrap_or o (followed_by below (line_block s m)))) (inner m more)
-        ∙ ap (λ (fs : List Frame). Some (rebuilt fs (with_line s inside rest)))
-        (touched_alike l m (g ∷ frames) (rest_next s (is_nil below) l m f.block.kind takes)))
+        ∙ ap (λ (fs : List Frame). Some (rebuilt fs (with_line s inside rest))) (touched_alike l m (g ∷ frames)
+        (rest_kept (λ (l : SourceLine). l.next) (λ left l. refl) s (is_nil below) l m f.block.kind takes)))
 
 -- where the innermost is no list, what is in it goes on with what is left of the line
 pub line_inside : (s : Source) (inside : Forest Block) (l rest : SourceLine) (frames : List Frame)
     → AreContainers frames → AreNested frames → innermost_is is_list frames ≡ false → AllGoOn s frames inside l rest
     → with_line s (rebuilt frames inside) l ≡ rebuilt (map (touched l) frames) (with_line s inside rest)
-line_inside s inside l rest [] are nested plain same = ap (with_line s inside) same
+line_inside s inside l rest [] are nested plain same = rw same refl
 line_inside s inside l rest (f ∷ frames) are nested plain all =
-    ap (λ o. unwrap_or o (followed_by (rebuilt (f ∷ frames) inside) (line_block s l)))
-    (goes_inside s inside l rest f frames are nested plain all)
+    rw (goes_inside s inside l rest f frames are nested plain all) refl

@@ -2,7 +2,6 @@
 use Rattle.std.proofs.Common.{◌≡◌, ℕ, ◌≤◌, Bool, true, false, not, ◌&&◌, List, [], ◌∷◌, ◌++◌, Option, Some, None, map}
 use Rattle.std.proofs.Common.{refl, sym, ap, ◌∙◌, subst, append-nil, true≢false, arith}
 use Rattle.std.specs.Prelude.{◌==◌, nat_le}
-use Rattle.std.specs.Str.{IsCharBoundary}
 use Rattle.std.proofs.Math.Bool.{and-true, or-true}
 use Rattle.markdown_base.specs.Forest.{Forest}
 use Rattle.markdown_base.specs.declared.tag.MetadataBlockKind.{MetadataBlockKind}
@@ -16,42 +15,40 @@ use Rattle.markdown_lines.specs.declared.line.Line.{Line}
 use Rattle.markdown_lines.specs.HtmlKinds.{ends_at_blank}
 use Rattle.markdown_lines.specs.MetadataBlocks.{closes_metadata}
 use Rattle.markdown_lines.specs.declared.fence.Fence.{Fence}
-use Rattle.markdown_lines.specs.declared.fence.OpeningFence.{OpeningFence}
 use Rattle.markdown_lines.specs.declared.html_kind.HtmlKind.{HtmlKind}
 use Rattle.markdown_lines.specs.declared.position.Position.{Position}
 use Rattle.markdown_lines.specs.Positions.{left_from}
 use Rattle.markdown_block_rules.specs.BlockGrowth as was
 use Rattle.markdown_block_rules.specs.BlockGrowth.{Block, Kind, closes, ends_html, leaf_with, with_line}
-use Rattle.markdown_block_rules.specs.BlockRules.{block_end, block_ends_blank, code_lines, is_blank_block}
+use Rattle.markdown_block_rules.specs.BlockRules.{block_end, block_ends_blank, is_blank_block}
 use Rattle.markdown_block_rules.specs.BlockRules.{last_is_blank, lines_end as lines_end_from}
 use Rattle.markdown_plain.specs.declared.pass.LeafKind.{LeafKind}
 use Rattle.markdown_plain.specs.declared.pass.LeafKind.TheVariants as leaf
 use Rattle.markdown_plain.specs.HeldSources.{AreHeld}
+use Rattle.markdown_plain.specs.LeafGrowth.{GrowsLeaf, IsCode}
 use Rattle.markdown_plain.specs.declared.containers.Reached as code
 use Rattle.markdown_plain.specs.declared.pass.Pass.{Pass}
-use Rattle.markdown_plain.specs.Closable.{IsReadyAfter}
-use Rattle.markdown_plain.specs.Closing.{AreItemsInLists, MayEnd}
-use Rattle.markdown_plain.specs.Frames.{Frame, reached, rebuilt, touched}
+use Rattle.markdown_plain.specs.Closing.{MayEnd}
+use Rattle.markdown_plain.specs.Frames.{Frame, rebuilt, touched}
 use Rattle.markdown_plain.specs.OpenLeaves.{IsLeafIn, IsLineRest, IsOpenIn, IsPlaced, has_ended, is_leaf, is_table}
 use Rattle.markdown_plain.specs.OpenLeaves.{leaf_block}
-use Rattle.markdown_plain.specs.Paragraphs.{lines_end, source_of}
 use Rattle.markdown_plain.specs.ReachedLines.{Before, IsReachedBy, LeavesOff, blocks_before, is_indented, reached_of}
-use Rattle.markdown_plain.specs.Settled.{IsLooseAs}
-use Rattle.markdown_plain.specs.Standing.{HasLast, HoldsBlanks, IsLeafKind, KnowsLast, PlacesFor, is_metadata}
+use Rattle.markdown_plain.specs.Settled.{placed_end}
+use Rattle.markdown_plain.specs.Standing.{HasLast, HoldsBlanks, IsLeafKind, IsSource, KnowsLast, MetadataAlone}
+use Rattle.markdown_plain.specs.Standing.{PlacesFor, PlacesLast, is_metadata, with_last}
+use Rattle.markdown_plain.proofs.BegunBlocksLemmas.{source_kept}
+use Rattle.markdown_plain.proofs.BegunLeavesLemmas.{ends_here, line_places, no_paragraph}
 use Rattle.markdown_plain.proofs.BlankLinesLemmas.{blank_alike, whole_left}
-use Rattle.markdown_plain.specs.TableHeads.{Remembers}
+use Rattle.markdown_plain.specs.TableHeads.{IfParagraphLast, Remembers}
 use Rattle.markdown_plain.proofs.OpenTablesLemmas.{in_leaf_open, leaf_goes_by, leaf_known, nothing_remembered}
 use Rattle.markdown_plain.proofs.BlankStandingLemmas.{all_reached, last_of, next_after}
-use Rattle.markdown_plain.proofs.IndentedLeavesLemmas.{code_to_end, end_of_last}
 use Rattle.markdown_plain.proofs.ItemsInListsLemmas.{line_keeps}
 use Rattle.markdown_plain.proofs.LastBlocksLemmas.{is_over, leaf_is_over, open_are_containers}
 use Rattle.markdown_plain.proofs.LeafLinesLemmas.{end_touched, leaf_grows, loose_grown, open_leaf_touched}
 use Rattle.markdown_plain.proofs.LeafTreesLemmas.{few_owed}
-use Rattle.markdown_plain.proofs.LinedLeavesLemmas.{grown_to}
-use Rattle.markdown_plain.proofs.LooseFramesLemmas.{ends_more}
+use Rattle.markdown_plain.proofs.LinedLeavesLemmas.{code_to_end, end_of_last, grown_to}
 use Rattle.markdown_plain.proofs.ReachedFramesLemmas.{space_alike}
-use Rattle.markdown_plain.proofs.ReadyLinesLemmas.{leaf_ready}
-use Rattle.markdown_plain.proofs.ReadyPlacesLemmas.{next_between}
+use Rattle.markdown_plain.proofs.ReadyPlacesLemmas.{next_between, ready_last}
 use Rattle.markdown_plain.proofs.TouchedFramesLemmas.{built_touched, earlier_touched, quotes_touched}
 
 pub placed_touched : (l : SourceLine) (s : Source) (view : BuilderView) (frames : List Frame) (inside : Forest Block)
@@ -65,6 +62,12 @@ no_blank_line : (kind : Kind) → is_leaf kind ≡ true → is_blank_block kind 
 no_blank_line was.blank_line leaf = absurd (true≢false (sym leaf))
 no_blank_line other leaf = refl
 
+last_filled : (lines : List SourceLine) (l : SourceLine) → is_blank_rest l ≡ false → last_is_blank (lines ++ l ∷ [])
+    ≡ false
+last_filled [] l some = some
+last_filled (m ∷ []) l some = some
+last_filled (m ∷ n ∷ lines) l some = last_filled (n ∷ lines) l some
+
 -- what a leaf may be that has grown from one of another kind with a line that ends at a byte offset
 pub record MayGrow (kind now : Kind) (next : ℕ) : Type 0 where
   pub leaf : is_leaf now ≡ true
@@ -74,156 +77,107 @@ pub record MayGrow (kind now : Kind) (next : ℕ) : Type 0 where
   pub alone : is_metadata now ≡ true → is_metadata kind ≡ true
   pub end : (b : Block) → b.last ≡ next → block_end b b.first now ≡ next
 
--- the pass has added a line to the open leaf
-pub record AddsTo (s : Source) (old new : Pass) (frames : List Frame) (inside : Forest Block) (c : Block) : Type 0
-  where
-    pub source : source_of new ≡ source_of old
-    pub lines : new.lines.items ≡ old.lines.items
-    pub looseness : new.looseness ≡ old.looseness
-    pub is : IsLeafIn s new.placing.builder frames inside c (has_ended c.kind)
-    pub held : new.blanks.items ≡ []
-    pub knows : has_ended c.kind ≡ false → IsLeafKind new.leaf c.kind × HoldsBlanks new.blanks.items c.kind
+-- a leaf of a kind grows by the rest of a line, which may be added to it, and no line is held back then
+pub record GrownFrom (s : Source) (new : Pass) (rest : SourceLine) (how : LeafKind) (may_be : SourceLine → Type 0)
+    (kind : Kind) : Type 0 where
+  pub now : Kind
+  pub line : may_be rest
+  pub is : leaf_with s rest kind ≡ Some now
+  pub grows : MayGrow kind now rest.next
+  pub knows : has_ended now ≡ false → IsLeafKind how now
+  pub holds : HoldsBlanks new.blanks.items now
+  pub held : new.blanks.items ≡ []
 
 grown_places : (s : Source) (old new : Pass) (line : Line) (found : code.Reached) (frames : List Frame)
-    (inside : Forest Block) (b : Block) (source : SourceLine) (now : Kind)
+    (inside : Forest Block) (b c : Block) (source : SourceLine) (how : LeafKind) (may_be : SourceLine → Type 0)
     → IsReachedBy s old line found (last_of frames inside b) source
     → (reached_of s (last_of frames inside b) source).inner ≡ []
-    → MayEnd s old frames inside b None → old.lines.items ≡ []
-    → MayGrow b.kind now (reached_of s (last_of frames inside b) source).rest.next
-    → leaf_with s (reached_of s (last_of frames inside b) source).rest b.kind ≡ Some now
-    → AddsTo s old new frames inside (grown_to b (reached_of s (last_of frames inside b) source).rest.next now)
+    → MayEnd s old frames inside b None → old.lines.items ≡ [] → old.leaf ≡ how
+    → new ≡ record old { placing = new.placing; blanks = new.blanks }
+    → new.placing.builder.text ≡ old.placing.builder.text
+    → (g : GrownFrom s new (reached_of s (last_of frames inside b) source).rest how may_be b.kind)
+    → c ≡ grown_to b (reached_of s (last_of frames inside b) source).rest.next g.now
+    → IsLeafIn s new.placing.builder frames inside c (has_ended g.now)
     → PlacesFor s new line.next (with_line s (blocks_before (last_of frames inside b)) source)
-grown_places s old new line found frames inside b source now by none may empty grows goes adds =
-    by_end (has_ended now) refl adds.is
+grown_places s old new line found frames inside b c source how may_be by none may empty how_is same text g c_is is =
+    by_end (has_ended g.now) refl is
   where
+    kind : c.kind ≡ g.now
+    kind = rw c_is refl
+
     whole : with_line s (blocks_before (last_of frames inside b)) source
-        ≡ rebuilt (map (touched source) frames) (followed_by inside (leaf_block
-        (grown_to b (reached_of s (last_of frames inside b) source).rest.next now)))
+        ≡ rebuilt (map (touched source) frames) (followed_by inside (leaf_block c))
     whole =
         let around = may.unended.1.around in
-        leaf_grows s frames inside b source now
+        rw c_is (leaf_grows s frames inside b source g.now
         (open_are_containers old.placing.builder.texts may.unended.1.outer frames around.blocks) around.nested none
-        may.unended.0 goes
+        may.unended.0 g.is)
 
-    loose : IsLooseAs new.looseness (map (touched source) frames) (followed_by inside (leaf_block
-        (grown_to b (reached_of s (last_of frames inside b) source).rest.next now)))
-    loose = subst (λ now_loose. IsLooseAs now_loose (map (touched source) frames) (followed_by inside (leaf_block
-        (grown_to b (reached_of s (last_of frames inside b) source).rest.next now)))) (sym adds.looseness)
-        (loose_grown source old.looseness frames inside b
-        (grown_to b (reached_of s (last_of frames inside b) source).rest.next now)
-        (no_blank_line b.kind may.unended.0 ∙ sym (no_blank_line now grows.leaf)) by.stands.loose)
+    lines : new.lines.items ≡ []
+    lines = ap (λ (p : Pass). p.lines.items) same ∙ empty
 
-    items : AreItemsInLists false (rebuilt (map (touched source) frames)
-        (followed_by inside (leaf_block
-        (grown_to b (reached_of s (last_of frames inside b) source).rest.next now))))
-    items = subst (AreItemsInLists false) whole
-        (line_keeps s (blocks_before (last_of frames inside b)) source may.items)
-
-    before : lines_end new.lines.items ≤ line.next
-    before =
-        let last = by.stands.before in
-        let next = next_after old line source by.is in
-        subst (λ (ls : List HeldLine). lines_end ls ≤ line.next) (sym adds.lines) (omega (arith, last, next))
-
-    ready : IsReadyAfter new line.next
-    ready =
-        let next = by.reaches.rest.next in
-        let text : new.placing.builder.text ≡ old.placing.builder.text = ap (λ (s : Source). s.text) adds.source in
-        leaf_ready s new frames inside (grown_to b (reached_of s (last_of frames inside b) source).rest.next now)
-        (has_ended now) line.next grows.leaf adds.is (adds.lines ∙ empty) adds.held
-        (grows.end (grown_to b (reached_of s (last_of frames inside b) source).rest.next now) refl ∙ sym next)
-        (subst (λ t. IsCharBoundary t line.next) (sym text)
-        (next_between old.placing.builder.text line.start line by.is.utf8 by.is.from))
-
-    by_end : (ended : Bool) → has_ended now ≡ ended
-        → IsLeafIn s new.placing.builder frames inside
-        (grown_to b (reached_of s (last_of frames inside b) source).rest.next now) ended
+    places : (before : Forest Block) (last : Option Block) → with_last before last ≡ followed_by inside (leaf_block c)
+        → PlacesLast s new (map (touched source) frames) before last
+        → MetadataAlone last (map (touched source) frames) → IfParagraphLast s (Remembers s new line.next) last
+        → new.placing.builder.at ≡ placed_end 0 frames (followed_by inside (leaf_block c))
         → PlacesFor s new line.next (with_line s (blocks_before (last_of frames inside b)) source)
-    by_end true ends is = record {
-      frames = map (touched source) frames;
-      inside = followed_by inside
-          (leaf_block (grown_to b (reached_of s (last_of frames inside b) source).rest.next now));
-      last = None;
-      places = record {
-        source = adds.source ∙ by.stands.source;
-        unended = (
-          placed_touched source s new.placing.builder frames (followed_by inside
-              (leaf_block (grown_to b (reached_of s (last_of frames inside b) source).rest.next now))) is,
-          adds.lines ∙ empty,
-          leaf_is_over s inside (grown_to b (reached_of s (last_of frames inside b) source).rest.next now)
-              (grows.over ends),
-        );
-        quotes = quotes_touched source line.next (sym by.is.next) frames;
-        items = items;
-        loose = loose;
-        filled = ends_more false inside
-            (leaf_block (grown_to b (reached_of s (last_of frames inside b) source).rest.next now)) ∙ grows.filled;
-        before = before;
-        unheld = λ outside. adds.held;
-        earlier = earlier_touched source line.start line.next (next_after old line source by.is) frames
-            by.stands.earlier;
-        alone = tt;
-        remembers = tt;
-        ready = ready;
-      };
-      whole = whole;
-    }
-    by_end false ends is = record {
-      frames = map (touched source) frames;
-      inside = inside;
-      last = Some (grown_to b (reached_of s (last_of frames inside b) source).rest.next now);
-      places = record {
-        source = adds.source ∙ by.stands.source;
-        unended = (
+    places before last are unended alone remembers at =
+        let leaf = ap is_leaf kind ∙ g.grows.leaf in
+        let filled = no_blank_line c.kind leaf in
+        line_places s new line.next (map (touched source) frames) inside _ c before last are
+        (record { filled = filled; ends = ap (block_ends_blank false) kind ∙ g.grows.filled })
+        (source_kept s old new text (ap (λ (p : Pass). p.syntax) same) by.stands.source) unended alone remembers
+        (quotes_touched source line.next (sym by.is.next) frames)
+        (earlier_touched source line.start line.next (next_after old line source by.is) frames by.stands.earlier)
+        (rw (ap (λ (p : Pass). p.looseness) same) (loose_grown source old.looseness frames inside b c
+        (no_blank_line b.kind may.unended.0 ∙ sym filled) by.stands.loose))
+        g.held (no_paragraph new.lines.items line.next lines) whole
+        (line_keeps s (blocks_before (last_of frames inside b)) source may.items)
+        (ready_last s new (map (touched source) frames) before last line.next unended lines g.held
+        (ends_here s new.placing.builder frames inside c line.next leaf
+        (rw kind (g.grows.end c (rw c_is refl)) ∙ sym by.reaches.rest.next) at)
+        (rw text (next_between old.placing.builder.text line.start line by.is.utf8 by.is.from)))
+
+    by_end : (ended : Bool) → has_ended g.now ≡ ended → IsLeafIn s new.placing.builder frames inside c ended
+        → PlacesFor s new line.next (with_line s (blocks_before (last_of frames inside b)) source)
+    by_end true ends is =
+        places (followed_by inside (leaf_block c)) None refl (
+          placed_touched source s new.placing.builder frames (followed_by inside (leaf_block c)) is,
+          lines,
+          leaf_is_over s inside c (ap is_over kind ∙ g.grows.over ends),
+        ) tt tt is.at
+    by_end false ends is =
+        places inside (Some c) refl (
           None,
           (
-            grows.leaf,
-            subst (λ in_leaf. IsOpenIn s new.placing.builder (map (touched source) frames) inside in_leaf
-                (grown_to b (reached_of s (last_of frames inside b) source).rest.next now)) (sym (ap not grows.plain))
-                (open_leaf_touched source s new.placing.builder frames inside true
-                (grown_to b (reached_of s (last_of frames inside b) source).rest.next now) is),
+            ap is_leaf kind ∙ g.grows.leaf,
+            subst (λ in_leaf. IsOpenIn s new.placing.builder (map (touched source) frames) inside in_leaf c)
+                (sym (ap (λ k. not (is_table k)) kind ∙ ap not g.grows.plain))
+                (open_leaf_touched source s new.placing.builder frames inside true c is),
           ),
-          (leaf_goes_by new.leaf now grows.plain (adds.knows ends).0, (adds.knows ends).1, adds.lines ∙ empty),
-        );
-        quotes = quotes_touched source line.next (sym by.is.next) frames;
-        items = items;
-        loose = loose;
-        filled = ends_more false inside
-            (leaf_block (grown_to b (reached_of s (last_of frames inside b) source).rest.next now)) ∙ grows.filled;
-        before = before;
-        unheld = λ outside. absurd (true≢false (sym is.leaf ∙ outside));
-        earlier = earlier_touched source line.start line.next (next_after old line source by.is) frames
-            by.stands.earlier;
-        alone = λ metadata. ap (map (touched source)) (by.stands.alone (grows.alone metadata));
-        remembers = nothing_remembered s (Remembers s new line.next) now grows.leaf;
-        ready = ready;
-      };
-      whole = whole;
-    }
-
-last_filled : (lines : List SourceLine) (l : SourceLine) → is_blank_rest l ≡ false → last_is_blank (lines ++ l ∷ [])
-    ≡ false
-last_filled [] l some = some
-last_filled (m ∷ []) l some = some
-last_filled (m ∷ n ∷ lines) l some = last_filled (n ∷ lines) l some
+          (
+            rw kind (leaf_goes_by new.leaf g.now g.grows.plain
+                (rw (ap (λ (p : Pass). p.leaf) same, how_is) (g.knows ends))),
+            rw kind g.holds,
+            lines,
+          ),
+        ) (λ metadata. ap (map (touched source))
+        (by.stands.alone (g.grows.alone (sym (ap is_metadata kind) ∙ metadata))))
+        (nothing_remembered s (Remembers s new line.next) c.kind (ap is_leaf kind ∙ g.grows.leaf)) is.end
 
 -- ---- the open leaf, by its kind
 
--- how an open leaf of the builder goes on is known
-abbrev KnowsLeaf : Pass → Block → Type 0
-KnowsLeaf pass b =
-    IsLeafKind pass.leaf b.kind × HoldsBlanks pass.blanks.items b.kind × (pass.lines.items ≡ [])
-
 -- the last block before a line is a leaf, where one is open
-leaf_case : (P : Before → Type 0) (s : Source) (pass : Pass) (before : Before)
-    → HasLast s pass before.frames before.inside before.last → pass.placing.builder.leaf ≡ true
-    → ((b : Block) → MayEnd s pass before.frames before.inside b None → KnowsLeaf pass b
-    → P (last_of before.frames before.inside b)) → P before
-leaf_case P s pass before has leaf some = by_last before.last has some
+leaf_case : (P : Before → Type 0) (s : Source) (pass : Pass) (before : Before) (how : LeafKind)
+    → HasLast s pass before.frames before.inside before.last → pass.leaf ≡ how → pass.placing.builder.leaf ≡ true
+    → ((b : Block) → MayEnd s pass before.frames before.inside b None → IsLeafKind how b.kind
+    → HoldsBlanks pass.blanks.items b.kind → pass.lines.items ≡ [] → P (last_of before.frames before.inside b))
+    → P before
+leaf_case P s pass before how has how_is leaf some = by_last before.last has some
   where
     by_last : (last : Option Block) → HasLast s pass before.frames before.inside last
-        → ((b : Block) → MayEnd s pass before.frames before.inside b None → KnowsLeaf pass b
-        → P (last_of before.frames before.inside b))
+        → ((b : Block) → MayEnd s pass before.frames before.inside b None → IsLeafKind how b.kind
+        → HoldsBlanks pass.blanks.items b.kind → pass.lines.items ≡ [] → P (last_of before.frames before.inside b))
         → P (record { frames = before.frames; inside = before.inside; last = last })
     by_last None has some = absurd (true≢false (sym leaf ∙ has.0.stands.built.outside))
     by_last (Some b) has some = by_held has.0 has.1 has.2
@@ -231,11 +185,12 @@ leaf_case P s pass before has leaf some = by_last before.last has some
         by_held : (held : Option (List SourceLine)) → MayEnd s pass before.frames before.inside b held
             → KnowsLast pass b held → P (last_of before.frames before.inside b)
         by_held None may knows =
-            some b may (leaf_known pass.leaf b.kind (sym may.unended.1.leaf ∙ leaf) knows.0, knows.1, knows.2)
+            some b may (subst (λ h. IsLeafKind h b.kind) how_is
+            (leaf_known pass.leaf b.kind (sym may.unended.1.leaf ∙ leaf) knows.0)) knows.1 knows.2
         by_held (Some sources) may knows = absurd (true≢false (sym leaf ∙ may.unended.built.outside))
 
 -- the rest of the line
-line_rest : (s : Source) (pass : Pass) (line : Line) (found : code.Reached) (before : Before)
+pub line_rest : (s : Source) (pass : Pass) (line : Line) (found : code.Reached) (before : Before)
     (source : SourceLine) → IsReachedBy s pass line found before source
     → IsLineRest pass.placing.builder.text found.position line (reached_of s before source).rest
 line_rest s pass line found before source by = record {
@@ -244,253 +199,136 @@ line_rest s pass line found before source by = record {
   ends = let ends = by.is.from.ends in omega (arith, ends);
 }
 
--- a leaf of a kind with one line more
-record GrownFrom (s : Source) (rest : SourceLine) (how : LeafKind) (kind : Kind) : Type 0 where
-  now : Kind
-  is : leaf_with s rest kind ≡ Some now
-  grows : MayGrow kind now rest.next
-  knows : has_ended now ≡ false → IsLeafKind how now
-  none : (held : List HeldLine) → held ≡ [] → HoldsBlanks held now
-
-fenced_grown : (s : Source) (rest : SourceLine) (opening : OpeningFence) (lines : List SourceLine)
-    → GrownFrom s rest (leaf.Fenced opening.fence) (was.fenced_leaf opening false lines)
-fenced_grown s rest opening lines = by_test (closes s rest opening.fence) refl
-  where
-    by_test : (test : Bool) → closes s rest opening.fence ≡ test
-        → GrownFrom s rest (leaf.Fenced opening.fence) (was.fenced_leaf opening false lines)
-    by_test true is = record {
-      now = was.fenced_leaf opening true lines;
-      is = rw is refl;
-      grows = record {
-        leaf = refl;
-        plain = refl;
-        over = λ e. e;
-        filled = refl;
-        alone = λ e. absurd (true≢false (sym e));
-        end = λ b e. e;
-      };
-      knows = λ e. absurd (true≢false e);
-      none = λ held e. e;
-    }
-    by_test false is = record {
-      now = was.fenced_leaf opening false (lines ++ cut opening.fence.indent rest ∷ []);
-      is = rw is refl;
-      grows = record {
-        leaf = refl;
-        plain = refl;
-        over = λ e. e;
-        filled = refl;
-        alone = λ e. absurd (true≢false (sym e));
-        end = λ b e. e;
-      };
-      knows = λ e. refl;
-      none = λ held e. e;
-    }
-
-metadata_grown : (s : Source) (rest : SourceLine) (kind : MetadataBlockKind) (lines : List SourceLine)
-    → GrownFrom s rest (leaf.Metadata kind) (was.metadata_leaf kind false lines)
-metadata_grown s rest kind lines = by_test (closes_metadata kind rest.left.bytes) refl
-  where
-    by_test : (test : Bool) → closes_metadata kind rest.left.bytes ≡ test
-        → GrownFrom s rest (leaf.Metadata kind) (was.metadata_leaf kind false lines)
-    by_test true is = record {
-      now = was.metadata_leaf kind true lines;
-      is = rw is refl;
-      grows = record { leaf = refl; plain = refl; over = λ e. e; filled = refl; alone = λ e. refl; end = λ b e. e };
-      knows = λ e. absurd (true≢false e);
-      none = λ held e. e;
-    }
-    by_test false is = record {
-      now = was.metadata_leaf kind false (lines ++ rest ∷ []);
-      is = rw is refl;
-      grows = record { leaf = refl; plain = refl; over = λ e. e; filled = refl; alone = λ e. refl; end = λ b e. e };
-      knows = λ e. refl;
-      none = λ held e. e;
-    }
-
-html_grown : (s : Source) (rest : SourceLine) (kind : HtmlKind) (lines : List SourceLine)
-    → (is_blank_rest rest && ends_at_blank kind) ≡ false
-    → GrownFrom s rest (leaf.Html kind) (was.html_leaf kind false lines)
-html_grown s rest kind lines more = record {
-  now = was.html_leaf kind (ends_html kind rest) (lines ++ rest ∷ []);
-  is = rw more refl;
-  grows = record {
-    leaf = refl;
-    plain = refl;
-    over = λ e. e;
-    filled = refl;
-    alone = λ e. absurd (true≢false (sym e));
-    end = λ b e. e;
-  };
-  knows = λ e. subst (λ t. IsLeafKind (leaf.Html kind) (was.html_leaf kind t (lines ++ rest ∷ []))) (sym e) refl;
-  none = λ held e. e;
-}
-
--- a leaf that holds no blank lines back
-kept_places : (s : Source) (old new : Pass) (line : Line) (found : code.Reached) (frames : List Frame)
-    (inside : Forest Block) (b : Block) (source : SourceLine)
-    → IsReachedBy s old line found (last_of frames inside b) source
-    → (reached_of s (last_of frames inside b) source).inner ≡ []
-    → MayEnd s old frames inside b None → old.lines.items ≡ [] → old.blanks.items ≡ []
-    → new ≡ record old { placing = new.placing } → new.placing.builder.text ≡ old.placing.builder.text
-    → (grown : GrownFrom s (reached_of s (last_of frames inside b) source).rest old.leaf b.kind)
-    → IsLeafIn s new.placing.builder frames inside
-    (grown_to b (reached_of s (last_of frames inside b) source).rest.next grown.now) (has_ended grown.now)
-    → PlacesFor s new line.next (with_line s (blocks_before (last_of frames inside b)) source)
-kept_places s old new line found frames inside b source by none may empty unheld same text grown is =
-    grown_places s old new line found frames inside b source grown.now by none may empty grown.grows grown.is (record {
-      source = ap (λ t. record { text = t; syntax = new.syntax }) text
-          ∙ ap (λ (p : Pass). record { text = old.placing.builder.text; syntax = p.syntax }) same;
-      lines = ap (λ (p : Pass). p.lines.items) same;
-      looseness = ap (λ (p : Pass). p.looseness) same;
-      is = is;
-      held = ap (λ (p : Pass). p.blanks.items) same ∙ unheld;
-      knows = λ e. (
-        subst (λ how. IsLeafKind how grown.now) (sym (ap (λ (p : Pass). p.leaf) same)) (grown.knows e),
-        grown.none new.blanks.items (ap (λ (p : Pass). p.blanks.items) same ∙ unheld),
-      );
-    })
-
--- ---- fenced code
-
-abbrev pub AddsFenced : Source → Pass → Pass → Line → Position → Fence → Type 0
-AddsFenced s old new line position fence =
-    (frames : List Frame) (inside : Forest Block) (b : Block) (opening : OpeningFence) (lines : List SourceLine)
-    (source : SourceLine) (kind : Kind) → IsLeafIn s old.placing.builder frames inside b false
-    → b.kind ≡ was.fenced_leaf opening false lines → opening.fence ≡ fence
-    → IsLineRest old.placing.builder.text position line source → leaf_with s source b.kind ≡ Some kind
-    → IsLeafIn s new.placing.builder frames inside
-    (record b { last = source.next; kind = kind }) (has_ended kind)
-
 -- the pass with one more line placed, where a leaf is open
 abbrev pub PlacesLine : Source → Pass → Pass → Line → code.Reached → SourceLine → Before → Type 0
 PlacesLine s old new line found source before =
     IsReachedBy s old line found before source → (reached_of s before source).inner ≡ []
     → PlacesFor s new line.next (with_line s (blocks_before before) source)
 
-pub fenced_places : (s : Source) (old new : Pass) (line : Line) (found : code.Reached) (before : Before)
-    (source : SourceLine) (fence : Fence) → old.leaf ≡ leaf.Fenced fence → old.placing.builder.leaf ≡ true
-    → new ≡ record old { placing = new.placing } → new.placing.builder.text ≡ old.placing.builder.text
-    → AddsFenced s old new line found.position fence
+-- a leaf of any kind grows by the rest of a line
+abbrev pub GrowsBy : Source → Pass → Pass → Line → code.Reached → Before → SourceLine → LeafKind
+    → (SourceLine → Type 0) → Type 0
+GrowsBy s old new line found before source how may_be =
+    (b : Block) → IsReachedBy s old line found (last_of before.frames before.inside b) source
+    → (reached_of s (last_of before.frames before.inside b) source).inner ≡ []
+    → IsLeafKind how b.kind → HoldsBlanks old.blanks.items b.kind
+    → GrownFrom s new (reached_of s (last_of before.frames before.inside b) source).rest how may_be b.kind
+
+pub leaf_places : (s : Source) (old new : Pass) (line : Line) (found : code.Reached) (before : Before)
+    (source : SourceLine) (how : LeafKind) (may_be : SourceLine → Type 0) → old.leaf ≡ how
+    → old.placing.builder.leaf ≡ true → new ≡ record old { placing = new.placing; blanks = new.blanks }
+    → new.placing.builder.text ≡ old.placing.builder.text → GrowsLeaf old new how may_be
+    → GrowsBy s old new line found before source how may_be
     → IsReachedBy s old line found before source → PlacesLine s old new line found source before
-fenced_places s old new line found before source fence how open_leaf same text adds by =
-    leaf_case (PlacesLine s old new line found source) s old before by.stands.unended open_leaf
-    (λ b may knows. by_kind b b.kind refl may (subst (λ h. IsLeafKind h b.kind) how knows.0) knows.1 knows.2)
+leaf_places s old new line found before source how may_be how_is open_leaf same text grows goes by =
+    leaf_case (PlacesLine s old new line found source) s old before how by.stands.unended how_is open_leaf
+    (λ b may known held empty by none.
+    let g = goes b by none known held in
+    grown_places s old new line found before.frames before.inside b _ source how may_be by none may empty how_is same
+    text g refl (grows s before.frames before.inside b _ g.now
+    (in_leaf_open s old before.frames before.inside b may open_leaf) known held g.line g.is))
+
+-- ---- how each kind of leaf grows
+
+-- an open leaf of a kind, as the pass remembers it, grows by a line of the definition
+abbrev pub GrowsWith : Source → Pass → Pass → SourceLine → LeafKind → (SourceLine → Type 0) → Kind → Type 0
+GrowsWith s old new rest how may_be kind =
+    may_be rest → new.blanks.items ≡ old.blanks.items → IsLeafKind how kind → HoldsBlanks old.blanks.items kind
+    → GrownFrom s new rest how may_be kind
+
+pub fenced_grown : (s : Source) (old new : Pass) (rest : SourceLine) (fence : Fence) (may_be : SourceLine → Type 0)
+    (kind : Kind) → GrowsWith s old new rest (leaf.Fenced fence) may_be kind
+fenced_grown s old new rest fence may_be (was.fenced_leaf opening false lines) line kept how held =
+    by_test (closes s rest opening.fence) refl
   where
-    by_kind : (b : Block) (kind : Kind) → b.kind ≡ kind → MayEnd s old before.frames before.inside b None
-        → IsLeafKind (leaf.Fenced fence) kind → HoldsBlanks old.blanks.items kind → old.lines.items ≡ []
-        → PlacesLine s old new line found source (last_of before.frames before.inside b)
-    by_kind b (was.fenced_leaf opening false lines) kind may is unheld empty = λ by none.
-        let rest = (reached_of s (last_of before.frames before.inside b) source).rest in
-        let known : old.leaf ≡ leaf.Fenced opening.fence = how ∙ ap leaf.Fenced (sym is) in
-        let grown : GrownFrom s rest old.leaf b.kind =
-        subst (λ k. GrownFrom s rest old.leaf k) (sym kind)
-        (subst (λ h. GrownFrom s rest h (was.fenced_leaf opening false lines)) (sym known)
-        (fenced_grown s rest opening lines)) in
-        let added = adds before.frames before.inside b opening lines rest grown.now
-        (in_leaf_open s old before.frames before.inside b may open_leaf) kind is
-        (line_rest s old line found (last_of before.frames before.inside b) source by) grown.is in
-        kept_places s old new line found before.frames before.inside b source by none may empty unheld same text
-        grown added
-    by_kind b kind same_kind may is unheld empty = absurd is
+    by_test : (test : Bool) → closes s rest opening.fence ≡ test
+        → GrownFrom s new rest (leaf.Fenced fence) may_be (was.fenced_leaf opening false lines)
+    by_test true is = record {
+      now = was.fenced_leaf opening true lines;
+      line = line;
+      is = rw is refl;
+      grows = record { leaf = refl; plain = refl; over = λ e. e; filled = refl; alone = λ e. e; end = λ b e. e };
+      knows = λ e. absurd (true≢false e);
+      holds = kept ∙ held;
+      held = kept ∙ held;
+    }
+    by_test false is = record {
+      now = was.fenced_leaf opening false (lines ++ cut opening.fence.indent rest ∷ []);
+      line = line;
+      is = rw is refl;
+      grows = record { leaf = refl; plain = refl; over = λ e. e; filled = refl; alone = λ e. e; end = λ b e. e };
+      knows = λ e. how;
+      holds = kept ∙ held;
+      held = kept ∙ held;
+    }
+fenced_grown s old new rest fence may_be other line kept how held = absurd how
 
--- ---- HTML
-
-abbrev pub AddsHtml : Source → Pass → Pass → Line → Position → HtmlKind → Type 0
-AddsHtml s old new line position kind =
-    (frames : List Frame) (inside : Forest Block) (b : Block) (lines : List SourceLine) (source : SourceLine)
-    (now : Kind) → IsLeafIn s old.placing.builder frames inside b false → b.kind ≡ was.html_leaf kind false lines
-    → IsLineRest old.placing.builder.text position line source → leaf_with s source b.kind ≡ Some now
-    → IsLeafIn s new.placing.builder frames inside
-    (record b { last = source.next; kind = now }) (has_ended now)
-
-pub html_places : (s : Source) (old new : Pass) (line : Line) (found : code.Reached) (before : Before)
-    (source : SourceLine) (kind : HtmlKind) → old.leaf ≡ leaf.Html kind → old.placing.builder.leaf ≡ true
-    → new ≡ record old { placing = new.placing } → new.placing.builder.text ≡ old.placing.builder.text
-    → AddsHtml s old new line found.position kind
-    → (nat_le line.stop found.content && ends_at_blank kind) ≡ false
-    → IsReachedBy s old line found before source → PlacesLine s old new line found source before
-html_places s old new line found before source kind how open_leaf same text adds more by =
-    leaf_case (PlacesLine s old new line found source) s old before by.stands.unended open_leaf
-    (λ b may knows. by_kind b b.kind refl may (subst (λ h. IsLeafKind h b.kind) how knows.0) knows.1 knows.2)
+pub metadata_grown : (s : Source) (old new : Pass) (rest : SourceLine) (kind : MetadataBlockKind)
+    (may_be : SourceLine → Type 0) (k : Kind) → GrowsWith s old new rest (leaf.Metadata kind) may_be k
+metadata_grown s old new rest kind may_be (was.metadata_leaf found false lines) line kept how held =
+    by_test (closes_metadata found rest.left.bytes) refl
   where
-    by_kind : (b : Block) (now : Kind) → b.kind ≡ now → MayEnd s old before.frames before.inside b None
-        → IsLeafKind (leaf.Html kind) now → HoldsBlanks old.blanks.items now → old.lines.items ≡ []
-        → PlacesLine s old new line found source (last_of before.frames before.inside b)
-    by_kind b (was.html_leaf found_kind false lines) now may is unheld empty = λ by none.
-        let rest = (reached_of s (last_of before.frames before.inside b) source).rest in
-        let kind_is : b.kind ≡ was.html_leaf kind false lines =
-        now ∙ ap (λ k. was.html_leaf k false lines) is in
-        let grown : GrownFrom s rest old.leaf b.kind =
-        subst (λ k. GrownFrom s rest old.leaf k) (sym kind_is)
-        (subst (λ h. GrownFrom s rest h (was.html_leaf kind false lines)) (sym how)
-        (html_grown s rest kind lines (ap (λ t. t && ends_at_blank kind) (sym by.reaches.blank) ∙ more))) in
-        let added = adds before.frames before.inside b lines rest grown.now
-        (in_leaf_open s old before.frames before.inside b may open_leaf) kind_is
-        (line_rest s old line found (last_of before.frames before.inside b) source by) grown.is in
-        kept_places s old new line found before.frames before.inside b source by none may empty unheld same text
-        grown added
-    by_kind b now same_kind may is unheld empty = absurd is
+    by_test : (test : Bool) → closes_metadata found rest.left.bytes ≡ test
+        → GrownFrom s new rest (leaf.Metadata kind) may_be (was.metadata_leaf found false lines)
+    by_test true is = record {
+      now = was.metadata_leaf found true lines;
+      line = line;
+      is = rw is refl;
+      grows = record { leaf = refl; plain = refl; over = λ e. e; filled = refl; alone = λ e. e; end = λ b e. e };
+      knows = λ e. absurd (true≢false e);
+      holds = kept ∙ held;
+      held = kept ∙ held;
+    }
+    by_test false is = record {
+      now = was.metadata_leaf found false (lines ++ rest ∷ []);
+      line = line;
+      is = rw is refl;
+      grows = record { leaf = refl; plain = refl; over = λ e. e; filled = refl; alone = λ e. e; end = λ b e. e };
+      knows = λ e. how;
+      holds = kept ∙ held;
+      held = kept ∙ held;
+    }
+metadata_grown s old new rest kind may_be other line kept how held = absurd how
 
--- ---- metadata
+pub html_grown : (s : Source) (old new : Pass) (rest : SourceLine) (kind : HtmlKind) (may_be : SourceLine → Type 0)
+    (k : Kind) → (is_blank_rest rest && ends_at_blank kind) ≡ false
+    → GrowsWith s old new rest (leaf.Html kind) may_be k
+html_grown s old new rest kind may_be (was.html_leaf found false lines) more line kept how held = record {
+  now = was.html_leaf found (ends_html found rest) (lines ++ rest ∷ []);
+  line = line;
+  is = rw (how, more) refl;
+  grows = record { leaf = refl; plain = refl; over = λ e. e; filled = refl; alone = λ e. e; end = λ b e. e };
+  knows = λ e. rw e how;
+  holds = kept ∙ held;
+  held = kept ∙ held;
+}
+html_grown s old new rest kind may_be other more line kept how held = absurd how
 
-abbrev pub AddsMetadata : Source → Pass → Pass → Line → MetadataBlockKind → Type 0
-AddsMetadata s old new line kind =
-    (frames : List Frame) (inside : Forest Block) (b : Block) (lines : List SourceLine) (position : Position)
-    (source : SourceLine) (now : Kind) → IsLeafIn s old.placing.builder frames inside b false
-    → b.kind ≡ was.metadata_leaf kind false lines → position.at ≡ line.start → position.owed ≡ 0
-    → IsLineRest old.placing.builder.text position line source → leaf_with s source b.kind ≡ Some now
-    → IsLeafIn s new.placing.builder frames inside
-    (record b { last = source.next; kind = now }) (has_ended now)
-
--- in no container all of the line is left
-whole_rest : (s : Source) (frames : List Frame) (now : Forest Block) (source : SourceLine) → frames ≡ []
-    → (reached s frames now source).inner ≡ [] → (reached s frames now source).rest ≡ source
-whole_rest s frames now source none all = whole_left s frames now source (all_reached s frames now source all ∙ none)
-
-pub metadata_places : (s : Source) (old new : Pass) (line : Line) (found : code.Reached) (before : Before)
-    (source : SourceLine) (kind : MetadataBlockKind) → old.leaf ≡ leaf.Metadata kind
-    → old.placing.builder.leaf ≡ true → new ≡ record old { placing = new.placing }
-    → new.placing.builder.text ≡ old.placing.builder.text → AddsMetadata s old new line kind
-    → IsReachedBy s old line found before source → PlacesLine s old new line found source before
-metadata_places s old new line found before source kind how open_leaf same text adds by =
-    leaf_case (PlacesLine s old new line found source) s old before by.stands.unended open_leaf
-    (λ b may knows. by_kind b b.kind refl may (subst (λ h. IsLeafKind h b.kind) how knows.0) knows.1 knows.2)
-  where
-    by_kind : (b : Block) (now : Kind) → b.kind ≡ now → MayEnd s old before.frames before.inside b None
-        → IsLeafKind (leaf.Metadata kind) now → HoldsBlanks old.blanks.items now → old.lines.items ≡ []
-        → PlacesLine s old new line found source (last_of before.frames before.inside b)
-    by_kind b (was.metadata_leaf found_kind false lines) now may is unheld empty = λ by none.
-        let open_blocks = followed_by before.inside (leaf_block b) in
-        let rest = (reached_of s (last_of before.frames before.inside b) source).rest in
-        let kind_is : b.kind ≡ was.metadata_leaf kind false lines =
-        now ∙ ap (λ k. was.metadata_leaf k false lines) is in
-        let grown : GrownFrom s rest old.leaf b.kind =
-        subst (λ k. GrownFrom s rest old.leaf k) (sym kind_is)
-        (subst (λ h. GrownFrom s rest h (was.metadata_leaf kind false lines)) (sym how)
-        (metadata_grown s rest kind lines)) in
-        let alone = by.stands.alone (ap is_metadata kind_is) in
-        let left = by.reaches.rest.left
-        ∙ (ap (λ (l : SourceLine). l.left) (whole_rest s before.frames open_blocks source alone none)
-        ∙ sym by.is.left) in
-        let added = adds before.frames before.inside b lines found.position rest grown.now
-        (in_leaf_open s old before.frames before.inside b may open_leaf) kind_is
-        (ap (λ (l : LineLeft). l.scanned) left) (ap (λ (l : LineLeft). l.owed) left)
-        (line_rest s old line found (last_of before.frames before.inside b) source by) grown.is in
-        kept_places s old new line found before.frames before.inside b source by none may empty unheld same text
-        grown added
-    by_kind b now same_kind may is unheld empty = absurd is
-
--- ---- indented code
-
-abbrev pub AddsIndented : Source → Pass → Pass → Line → Position → Type 0
-AddsIndented s old new line position =
-    (frames : List Frame) (inside : Forest Block) (b : Block) (lines : List SourceLine) (blank : List SourceLine)
-    (source : SourceLine) → IsLeafIn s old.placing.builder frames inside b false
-    → b.kind ≡ was.indented_leaf (lines ++ blank) → code_lines (lines ++ blank) ≡ lines
-    → AreHeld old.blanks.items blank → IsLineRest old.placing.builder.text position line source
-    → is_blank_rest source ≡ false → IsLeafIn s new.placing.builder frames inside
-    (record b { last = source.next; kind = was.indented_leaf ((lines ++ blank) ++ source ∷ []) }) false
+-- a line of indented code that is not blank is added after the blank lines that were held back
+indented_grown : (s : Source) (new : Pass) (rest : SourceLine) (may_be : SourceLine → Type 0) (kind : Kind)
+    → may_be rest → new.blanks.items ≡ [] → is_blank_rest rest ≡ false
+    → ((leading_space 4 rest.left).columns == 4) ≡ true → IsLeafKind leaf.Indented kind
+    → GrownFrom s new rest leaf.Indented may_be kind
+indented_grown s new rest may_be (was.indented_leaf lines) line emptied some enough how =
+    let filled : is_blank_rest (cut 4 rest) ≡ false = blank_alike 4 rest.left ∙ some in
+    let all = code_to_end lines (cut 4 rest) filled in
+    record {
+      now = was.indented_leaf (lines ++ cut 4 rest ∷ []);
+      line = line;
+      is = rw (enough, or-true (is_blank_rest rest)) refl;
+      grows = record {
+        leaf = refl;
+        plain = refl;
+        over = λ e. absurd (true≢false (sym e));
+        filled = last_filled lines (cut 4 rest) filled;
+        alone = λ e. e;
+        end = λ b e. ap (lines_end_from b.first) all ∙ end_of_last b.first lines (cut 4 rest);
+      };
+      knows = λ e. tt;
+      holds = ([], sym (append-nil _ ∙ all), subst (λ (ls : List HeldLine). AreHeld ls []) (sym emptied) tt);
+      held = emptied;
+    }
+indented_grown s new rest may_be other line emptied some enough how = absurd how
 
 -- the rest of a line after at most four columns of space
 rest_cut : (text : List ℕ) (position after : Position) (line : Line) (l : SourceLine)
@@ -509,67 +347,37 @@ rest_cut text position after line l read is =
       ends = is.ends;
     }
 
--- a line of indented code that is not blank is added, after the blank lines that were held back
-pub indented_places : (s : Source) (old new : Pass) (line : Line) (found : code.Reached) (before : Before)
-    (source : SourceLine) (after : Position) → old.leaf ≡ leaf.Indented → old.placing.builder.leaf ≡ true
-    → new ≡ record old { placing = new.placing; blanks = new.blanks } → new.blanks.items ≡ []
-    → new.placing.builder.text ≡ old.placing.builder.text → AddsIndented s old new line after
+pub code_grown : (s : Source) (old new : Pass) (line : Line) (found : code.Reached) (frames : List Frame)
+    (inside : Forest Block) (b : Block) (source : SourceLine) (after : Position)
+    → IsReachedBy s old line found (last_of frames inside b) source → new.blanks.items ≡ []
     → left_from old.placing.builder.text after line.stop
     ≡ (leading_space 4 (left_from old.placing.builder.text found.position line.stop)).after
     → nat_le line.stop found.content ≡ false
     → ((leading_space 4 (left_from old.placing.builder.text found.position line.stop)).columns == 4) ≡ true
-    → IsReachedBy s old line found before source → PlacesLine s old new line found source before
-indented_places s old new line found before source after how open_leaf same emptied text adds read some four by =
-    leaf_case (PlacesLine s old new line found source) s old before by.stands.unended open_leaf
-    (λ b may knows. by_kind b b.kind refl may (subst (λ h. IsLeafKind h b.kind) how knows.0) knows.1 knows.2)
+    → IsLeafKind leaf.Indented b.kind → GrownFrom s new (reached_of s (last_of frames inside b) source).rest
+    leaf.Indented (IsCode old.placing.builder.text after line) b.kind
+code_grown s old new line found frames inside b source after by emptied read some four =
+    let filled = sym by.reaches.blank ∙ some in
+    indented_grown s new (reached_of s (last_of frames inside b) source).rest _ b.kind (record {
+      rest = rest_cut old.placing.builder.text found.position after line _ read
+          (line_rest s old line found (last_of frames inside b) source by);
+      filled = filled;
+    }) emptied filled (sym (ap (λ left. (leading_space 4 left).columns == 4) by.reaches.rest.left) ∙ four)
+
+-- metadata is open in no container, so that all of the line is left
+pub metadata_line : (s : Source) (old : Pass) (line : Line) (found : code.Reached) (frames : List Frame)
+    (inside : Forest Block) (b : Block) (source : SourceLine) (kind : MetadataBlockKind)
+    → IsReachedBy s old line found (last_of frames inside b) source
+    → (reached_of s (last_of frames inside b) source).inner ≡ [] → IsLeafKind (leaf.Metadata kind) b.kind
+    → IsSource old line (reached_of s (last_of frames inside b) source).rest
+metadata_line s old line found frames inside b source kind by none how =
+    let open_blocks = followed_by inside (leaf_block b) in
+    rw (whole_left s frames open_blocks source (all_reached s frames open_blocks source none
+    ∙ by.stands.alone (is b.kind how))) by.is
   where
-    none_left : (held : List HeldLine) (lines : List SourceLine) → held ≡ [] → code_lines lines ≡ lines
-        → HoldsBlanks held (was.indented_leaf lines)
-    none_left held lines none all =
-        ([], sym (append-nil (code_lines lines) ∙ all), subst (λ (ls : List HeldLine). AreHeld ls []) (sym none) tt)
-
-    goes : (rest : SourceLine) (lines : List SourceLine) → ((leading_space 4 rest.left).columns == 4) ≡ true
-        → leaf_with s rest (was.indented_leaf lines) ≡ Some (was.indented_leaf (lines ++ cut 4 rest ∷ []))
-    goes rest lines enough = rw (enough, or-true (is_blank_rest rest)) refl
-
-    by_kind : (b : Block) (kind : Kind) → b.kind ≡ kind → MayEnd s old before.frames before.inside b None
-        → IsLeafKind leaf.Indented kind → HoldsBlanks old.blanks.items kind → old.lines.items ≡ []
-        → PlacesLine s old new line found source (last_of before.frames before.inside b)
-    by_kind b (was.indented_leaf lines) kind may is unheld empty = λ by none.
-        let rest = (reached_of s (last_of before.frames before.inside b) source).rest in
-        let code = code_lines lines in
-        let blank = unheld.0 in
-        let now = was.indented_leaf (lines ++ cut 4 rest ∷ []) in
-        let filled : is_blank_rest (cut 4 rest) ≡ false =
-        blank_alike 4 rest.left ∙ (sym by.reaches.blank ∙ some) in
-        let enough = sym (ap (λ left. (leading_space 4 left).columns == 4) by.reaches.rest.left) ∙ four in
-        let all = code_to_end lines (cut 4 rest) filled in
-        let added = adds before.frames before.inside b code blank (cut 4 rest)
-        (in_leaf_open s old before.frames before.inside b may open_leaf)
-        (kind ∙ ap was.indented_leaf unheld.1) (ap code_lines (sym unheld.1)) unheld.2
-        (rest_cut old.placing.builder.text found.position after line rest read
-        (line_rest s old line found (last_of before.frames before.inside b) source by)) filled in
-        grown_places s old new line found before.frames before.inside b source now by none may empty (record {
-          leaf = refl;
-          plain = refl;
-          over = λ e. absurd (true≢false (sym e));
-          filled = last_filled lines (cut 4 rest) filled;
-          alone = λ e. absurd (true≢false (sym e));
-          end = λ b e. ap (lines_end_from b.first) all ∙ end_of_last b.first lines (cut 4 rest);
-        }) (ap (leaf_with s rest) kind ∙ goes rest lines enough) (record {
-          source = ap (λ t. record { text = t; syntax = new.syntax }) text
-              ∙ ap (λ (p : Pass). record { text = old.placing.builder.text; syntax = p.syntax }) same;
-          lines = ap (λ (p : Pass). p.lines.items) same;
-          looseness = ap (λ (p : Pass). p.looseness) same;
-          is = subst (λ ls. IsLeafIn s new.placing.builder before.frames before.inside
-              (grown_to b rest.next (was.indented_leaf (ls ++ cut 4 rest ∷ []))) false) (sym unheld.1) added;
-          held = emptied;
-          knows = λ e. (
-            subst (λ h. IsLeafKind h now) (sym (ap (λ (p : Pass). p.leaf) same ∙ how)) tt,
-            none_left new.blanks.items (lines ++ cut 4 rest ∷ []) emptied all,
-          );
-        })
-    by_kind b kind same_kind may is unheld empty = absurd is
+    is : (k : Kind) → IsLeafKind (leaf.Metadata kind) k → is_metadata k ≡ true
+    is (was.metadata_leaf found false lines) how = refl
+    is other how = absurd how
 
 -- ---- where it leaves off
 
@@ -578,25 +386,29 @@ abbrev pub LeavesLine : Source → Pass → Line → code.Reached → SourceLine
 LeavesLine s old line found source before =
     IsReachedBy s old line found before source → LeavesOff s (reached_of s before source).rest before.last
 
+html_off : (s : Source) (rest : SourceLine) (how : HtmlKind) (kind : Kind) → IsLeafKind (leaf.Html how) kind
+    → (is_blank_rest rest && ends_at_blank how) ≡ true → leaf_with s rest kind ≡ None
+html_off s rest how (was.html_leaf found false lines) is white = rw (is, white) refl
+html_off s rest how other is white = absurd is
+
 pub html_leaves_off : (s : Source) (old : Pass) (line : Line) (found : code.Reached) (before : Before)
     (source : SourceLine) (kind : HtmlKind) → old.leaf ≡ leaf.Html kind → old.placing.builder.leaf ≡ true
     → (nat_le line.stop found.content && ends_at_blank kind) ≡ true
     → IsReachedBy s old line found before source → LeavesLine s old line found source before
 html_leaves_off s old line found before source kind how open_leaf ends by =
-    leaf_case (LeavesLine s old line found source) s old before by.stands.unended open_leaf
-    (λ b may knows. by_kind b b.kind refl (subst (λ h. IsLeafKind h b.kind) how knows.0))
-  where
-    by_kind : (b : Block) (now : Kind) → b.kind ≡ now → IsLeafKind (leaf.Html kind) now
-        → LeavesLine s old line found source (last_of before.frames before.inside b)
-    by_kind b (was.html_leaf found_kind false lines) now is = λ by leaf other.
-        let rest = (reached_of s (last_of before.frames before.inside b) source).rest in
-        let white = ap (λ t. t && ends_at_blank kind) (sym by.reaches.blank) ∙ ends in
-        ap (leaf_with s rest) (now ∙ ap (λ k. was.html_leaf k false lines) is) ∙ over rest lines white
-      where
-        over : (rest : SourceLine) (lines : List SourceLine) → (is_blank_rest rest && ends_at_blank kind) ≡ true
-            → leaf_with s rest (was.html_leaf kind false lines) ≡ None
-        over rest lines white = rw white refl
-    by_kind b now same_kind is = absurd is
+    leaf_case (LeavesLine s old line found source) s old before (leaf.Html kind) by.stands.unended how open_leaf
+    (λ b may known held empty by leaf other.
+    html_off s (reached_of s (last_of before.frames before.inside b) source).rest kind b.kind known
+    (rw by.reaches.blank at ends))
+
+indented_off : (s : Source) (rest : SourceLine) (kind : Kind) → IsLeafKind leaf.Indented kind
+    → (is_blank_rest rest && is_indented kind) ≡ false
+    → (is_blank_rest rest ≡ false → ((leading_space 4 rest.left).columns == 4) ≡ false)
+    → leaf_with s rest kind ≡ None
+indented_off s rest (was.indented_leaf lines) is other few =
+    let filled = sym (and-true (is_blank_rest rest)) ∙ other in
+    rw (filled, few filled) refl
+indented_off s rest kind is other few = absurd is
 
 pub indented_leaves_off : (s : Source) (old : Pass) (line : Line) (found : code.Reached) (before : Before)
     (source : SourceLine) → old.leaf ≡ leaf.Indented → old.placing.builder.leaf ≡ true
@@ -604,21 +416,7 @@ pub indented_leaves_off : (s : Source) (old : Pass) (line : Line) (found : code.
     → ((leading_space 4 (left_from old.placing.builder.text found.position line.stop)).columns == 4) ≡ false)
     → IsReachedBy s old line found before source → LeavesLine s old line found source before
 indented_leaves_off s old line found before source how open_leaf few by =
-    leaf_case (LeavesLine s old line found source) s old before by.stands.unended open_leaf
-    (λ b may knows. by_kind b b.kind refl (subst (λ h. IsLeafKind h b.kind) how knows.0))
-  where
-    over : (rest : SourceLine) (lines : List SourceLine) → is_blank_rest rest ≡ false
-        → ((leading_space 4 rest.left).columns == 4) ≡ false
-        → leaf_with s rest (was.indented_leaf lines) ≡ None
-    over rest lines filled fewer = rw (filled, fewer) refl
-
-    by_kind : (b : Block) (now : Kind) → b.kind ≡ now → IsLeafKind leaf.Indented now
-        → LeavesLine s old line found source (last_of before.frames before.inside b)
-    by_kind b (was.indented_leaf lines) now is = λ by leaf other.
-        let rest = (reached_of s (last_of before.frames before.inside b) source).rest in
-        let filled : is_blank_rest rest ≡ false =
-        sym (and-true (is_blank_rest rest)) ∙ (ap (λ k. is_blank_rest rest && is_indented k) (sym now) ∙ other) in
-        let fewer = ap (λ left. (leading_space 4 left).columns == 4) (sym by.reaches.rest.left)
-        ∙ few (by.reaches.blank ∙ filled) in
-        ap (leaf_with s rest) now ∙ over rest lines filled fewer
-    by_kind b now same_kind is = absurd is
+    leaf_case (LeavesLine s old line found source) s old before leaf.Indented by.stands.unended how open_leaf
+    (λ b may known held empty by leaf other.
+    indented_off s (reached_of s (last_of before.frames before.inside b) source).rest b.kind known other (λ filled.
+    sym (ap (λ left. (leading_space 4 left).columns == 4) by.reaches.rest.left) ∙ few (by.reaches.blank ∙ filled)))

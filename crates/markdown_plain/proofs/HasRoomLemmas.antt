@@ -4,6 +4,7 @@ use Rattle.std.proofs.Common.{◌≡◌, ℕ, ◌≤◌, ◌==◌, Bool, true, f
 use Rattle.std.proofs.Common.{◌∙◌, arith, true≢false}
 use Rattle.std.proofs.lemmas.Bool.Decides.{nat_tests}
 use Rattle.std.specs.Prelude.{◌&&◌}
+use Rattle.std.proofs.lemmas.Bool.{and_parts}
 use Rattle.markdown_base.specs.Forest.{Forest, nil}
 use Rattle.markdown_base.specs.Source.{Source}
 use Rattle.markdown_lines.specs.SourceLines.{SourceLine}
@@ -39,23 +40,19 @@ pub record IsRoom (pass : Pass) (depth : ℕ) : Type 0 where
   pub few : length pass.placing.builder.blocks ≤ depth
   pub other : innermost_is is_list pass.placing.builder.blocks ≡ false
 
-both_true : (a b : Bool) → (a && b) ≡ true → (a ≡ true) × (b ≡ true)
-both_true true b e = (refl, e)
-both_true false b e = absurd (true≢false (sym e))
-
 not_true : (a : Bool) → not a ≡ true → a ≡ false
 not_true true e = sym e
 not_true false e = refl
 
-none_held : (lines : List HeldLine) → (length lines == 0) ≡ true → lines ≡ []
+pub none_held : (lines : List HeldLine) → (length lines == 0) ≡ true → lines ≡ []
 none_held [] none = refl
 none_held (line ∷ lines) none = absurd (grind (arith, nat_tests, none))
 
 pub room_is : (pass : Pass) (depth : ℕ) → has_room pass depth ≡ true → IsRoom pass depth
 room_is pass depth free =
-    let room = both_true (is_down pass depth) (not (innermost_is is_list pass.placing.builder.blocks)) free in
-    let down = both_true (has_ended pass) (nat_le (length pass.placing.builder.blocks) depth) room.0 in
-    let ended = both_true (not (has_leaf pass.placing.builder)) (length pass.lines.items == 0) down.0 in
+    let room = and_parts (is_down pass depth) (not (innermost_is is_list pass.placing.builder.blocks)) free in
+    let down = and_parts (has_ended pass) (nat_le (length pass.placing.builder.blocks) depth) room.0 in
+    let ended = and_parts (not (has_leaf pass.placing.builder)) (length pass.lines.items == 0) down.0 in
     let few = down.1 in
     record {
       leaf = not_true (has_leaf pass.placing.builder) ended.0;
@@ -72,8 +69,8 @@ not_down pass depth never = by_test (is_down pass depth) refl
     by_test : (down : Bool) → is_down pass depth ≡ down → is_down pass depth ≡ false
     by_test false is = is
     by_test true is =
-        let down = both_true (has_ended pass) (nat_le (length pass.placing.builder.blocks) depth) is in
-        let ended = both_true (not (has_leaf pass.placing.builder)) (length pass.lines.items == 0) down.0 in
+        let down = and_parts (has_ended pass) (nat_le (length pass.placing.builder.blocks) depth) is in
+        let ended = and_parts (not (has_leaf pass.placing.builder)) (length pass.lines.items == 0) down.0 in
         let few = down.1 in
         absurd (never (not_true (has_leaf pass.placing.builder) ended.0) (none_held pass.lines.items ended.1)
         (grind (arith, nat_tests, few)))
@@ -87,7 +84,7 @@ not_room pass depth never = by_test (has_room pass depth) refl
     by_test true is = absurd (never (room_is pass depth is))
 
 -- inside a container that was opened in the line there is
-pub room_inside : (s : Source) (pass : Pass) (frames : List Frame) (depth : ℕ) → MayOpen s pass frames nil
+pub room_inside : (s : Source) (pass : Pass) (frames : List Frame) (depth : ℕ) → MayOpen s pass frames
     → depth ≡ length frames → has_room pass depth ≡ true
 room_inside s pass frames depth may deep =
     let view = pass.placing.builder in

@@ -31,16 +31,11 @@ module _ (text : List ℕ) (line : Line) (rest : SourceLine) (start : ℕ) (at :
   -- the first byte of content is in the line
   pub starts_before : start < line.stop
   starts_before =
-      let some = filled_first rest.left.bytes rest refl at.filled in
-      let here = at.here in
-      let stop = at.stop in
-      omega (arith, some, here, stop)
+      omega (arith, filled_first rest.left.bytes rest refl at.filled, at.here, at.stop)
 
   pub starts_after : line.start ≤ start
   starts_after =
-      let low = at.low in
-      let here = at.here in
-      omega (arith, low, here)
+      omega (arith, at.low, at.here)
 
   is_text_line : IsTextLine text (held_line line start) (text_line rest)
   is_text_line = record {
@@ -62,10 +57,7 @@ module _ (text : List ℕ) (line : Line) (rest : SourceLine) (start : ℕ) (at :
   module _ (from : IsLineFrom text line.start line) where
     pub ends_after : line.start < line.next
     ends_after =
-        let first = starts_before in
-        let low = starts_after in
-        let ends = from.ends in
-        omega (arith, first, low, ends)
+        omega (arith, starts_before, starts_after, from.ends)
 
     pub is_held_line : IsHeldLine text (held_line line start)
     is_held_line = record {
@@ -93,8 +85,7 @@ module _ (text : List ℕ) (line : Line) (rest : SourceLine) (start : ℕ) (at :
     -- or a paragraph begins with it
     pub begins_block : BeginsText text (held_line line start) (text_line rest) (text_block rest)
     begins_block =
-        let first = starts_before in
-        let some : (start == line.stop) ≡ false = grind (arith, nat_tests, first) in
+        let some : (start == line.stop) ≡ false = grind (arith, nat_tests, starts_before) in
         record {
           is = is_text_line;
           inside = rw some (omega arith, (is_held_line, tt));

@@ -1,6 +1,6 @@
 -- Directly in the lists of a text there are items and blank lines, and items nowhere else: each line keeps that.
-use Rattle.std.proofs.Common.{◌≡◌, ◌∙◌, ℕ, zero, suc, Bool, true, false, not, ◌||◌, ◌&&◌, ◌==◌, List, [], ◌∷◌, ◌++◌}
-use Rattle.std.proofs.Common.{Option, Some, None, IfSome, length, refl, sym, subst}
+use Rattle.std.proofs.Common.{◌≡◌, ◌∙◌, ℕ, zero, suc, Bool, true, false, not, ◌||◌, ◌==◌, List, [], ◌∷◌, ◌++◌, Option}
+use Rattle.std.proofs.Common.{Some, None, IfSome, length, refl, sym}
 use Rattle.std.proofs.lemmas.Bool.{true≢false}
 use Rattle.std.specs.Prelude.{unwrap_or, if◌then◌else◌}
 use Rattle.std.specs.Option.{option_map, option_or}
@@ -9,25 +9,24 @@ use Rattle.markdown_base.specs.declared.tag.Alignment.{Alignment}
 use Rattle.markdown_builder.specs.TreeLevels.{followed_by}
 use Rattle.markdown_scan.specs.ContainerParts.{past_footnote, past_indent, past_quote}
 use Rattle.markdown_scan.specs.Entity.{entity_names}
-use Rattle.markdown_scan.specs.LineStart.{LineLeft, leading_space}
+use Rattle.markdown_scan.specs.LineStart.{LineLeft}
 use Rattle.markdown_lines.specs.declared.block_start.Before.TheVariants as paragraph
 use Rattle.markdown_lines.specs.declared.list_marker.ListMarker.{ListMarker}
 use Rattle.markdown_lines.specs.BlockBeginnings as line
 use Rattle.markdown_base.specs.Source.{Source}
 use Rattle.markdown_lines.specs.BlockBeginnings.{Beginning, begins}
 use Rattle.markdown_lines.specs.DefinitionRules.{divided}
-use Rattle.markdown_lines.specs.HtmlKinds.{ends_at_blank}
 use Rattle.markdown_lines.specs.MetadataBlocks.{closes_metadata}
 use Rattle.markdown_lines.specs.SourceLines.{SourceLine, cut, is_blank_rest, rest_inside, text_line}
 use Rattle.markdown_block_rules.specs.BlockGrowth as was
 use Rattle.markdown_block_rules.specs.BlockGrowth.{Block, Kind, another_item, begun_by, begun_in, block_with, closes}
-use Rattle.markdown_block_rules.specs.BlockGrowth.{container_with, cut_paragraph, ends_html, goes_on, inside_of}
-use Rattle.markdown_block_rules.specs.BlockGrowth.{is_nil, is_text, leaf_with, line_block, new_blocks, next_item}
+use Rattle.markdown_block_rules.specs.BlockGrowth.{container_with, cut_paragraph, ends_html, goes_on, inside_of, is_nil}
+use Rattle.markdown_block_rules.specs.BlockGrowth.{is_text, leaf_with, line_block, new_blocks, next_item}
 use Rattle.markdown_block_rules.specs.BlockGrowth.{begins_but_underline, paragraph_with, paragraph_with_text}
 use Rattle.markdown_block_rules.specs.BlockGrowth.{table_after, table_of_lines, table_with, with_lazy, with_lazy_text}
 use Rattle.markdown_block_rules.specs.BlockGrowth.{with_line, with_rest}
 use Rattle.markdown_block_rules.specs.BlockRules.{is_blank_block}
-use Rattle.markdown_block_rules.specs.TableLines.{alignments_for, is_row, reads_tables}
+use Rattle.markdown_block_rules.specs.TableLines.{alignments_for, reads_tables}
 use Rattle.markdown_block_rules.proofs.BlockBeginningsLemmas.{either}
 use Rattle.markdown_plain.specs.Closing.{AreItemsInLists, MayBeIn}
 use Rattle.markdown_plain.specs.Frames.{is_item, is_list}
@@ -70,9 +69,7 @@ new_placed inside l placed other = (λ e. refl, tt, tt)
 
 inside_placed : (f : SourceLine → Forest Block) (l : SourceLine) → ((m : SourceLine) → AreItemsInLists false (f m))
     → (rest : LineLeft) → AreItemsInLists false (inside_of f l rest)
-inside_placed f l placed rest =
-    either (AreItemsInLists false) (is_blank_rest (rest_inside rest l)) nil (f (rest_inside rest l)) tt
-    (placed (rest_inside rest l))
+inside_placed f l placed rest = either (AreItemsInLists false) _ nil _ tt (placed (rest_inside rest l))
 
 begun_placed : (n : ℕ) (s : Source) (l : SourceLine) → AreItemsInLists false (begun_in n s l)
 unfolding begun_in
@@ -83,26 +80,23 @@ begun_placed (suc n) s l =
 
 line_placed : (s : Source) (l : SourceLine) → AreItemsInLists false (line_block s l)
 line_placed s l =
-    either (AreItemsInLists false) (is_blank_rest l) (was.new_block l.left.scanned l was.blank_line nil)
-    (begun_by s l) (λ e. refl, tt, tt) (begun_placed (suc (length l.left.bytes)) s l)
+    either (AreItemsInLists false) (is_blank_rest l) (was.new_block l.left.scanned l was.blank_line nil) _
+    (λ e. refl, tt, tt) (begun_placed (suc (length l.left.bytes)) s l)
 
 another_placed : (s : Source) (m : SourceLine) (marker : ListMarker) (b : Beginning)
     → IfSome (another_item s m marker b) (AreItemsInLists true)
 another_placed s m marker (line.begins_item found indent rest) =
-    chosen (AreItemsInLists true) (found.character == marker.character)
-    (Some (was.new_item (inside_of (begun_by s) m) m indent rest)) None (
+    chosen (AreItemsInLists true) (found.character == marker.character) _ _ (
       λ e. refl,
       inside_placed (begun_by s) m (λ l. begun_placed (suc (length l.left.bytes)) s l) rest,
       tt,
     ) tt
 another_placed s m marker other = tt
 
-next_placed : (s : Source) (m : SourceLine) (marker : ListMarker)
-    → IfSome (next_item s m marker) (AreItemsInLists true)
+next_placed : (s : Source) (m : SourceLine) (marker : ListMarker) → IfSome (next_item s m marker) (AreItemsInLists true)
 next_placed s m marker = decided (is_blank_rest m)
   where
-    decided : (blank : Bool)
-        → IfSome (if blank
+    decided : (blank : Bool) → IfSome (if blank
         then Some (if blank then was.new_block m.left.scanned m was.blank_line nil else begun_by s m)
         else another_item s m marker (begins s paragraph.Lazy m)) (AreItemsInLists true)
     decided true = (λ e. absurd (true≢false e), tt, tt)
@@ -123,38 +117,33 @@ further_same s m lines other = tt
 text_same : (s : Source) (m : SourceLine) (lines : List SourceLine) (b : Beginning)
     → IfSome (paragraph_with s m lines b) (IsPlacedAs (was.paragraph_leaf lines))
 text_same s m lines (line.begins_underline level) =
-    chosen (IsPlacedAs (was.paragraph_leaf lines))
-    (length (divided (entity_names s.syntax) s.text lines).lines == 0)
-    (paragraph_with_text s m lines (begins_but_underline s m)) (Some (was.underlined_leaf level lines))
-    (further_same s m lines (begins_but_underline s m)) (refl, refl, refl)
+    chosen (IsPlacedAs (was.paragraph_leaf lines)) (length (divided (entity_names s.syntax) s.text lines).lines == 0) _
+    (Some (was.underlined_leaf level lines)) (further_same s m lines (begins_but_underline s m)) (refl, refl, refl)
 text_same s m lines other = further_same s m lines other
 
 leaf_same : (s : Source) (m : SourceLine) (kind : Kind) → IfSome (leaf_with s m kind) (IsPlacedAs kind)
 leaf_same s m (was.paragraph_leaf lines) =
-    chosen (IsPlacedAs (was.paragraph_leaf lines)) (is_blank_rest m) None
-    (paragraph_with s m lines (begins s paragraph.Reached m)) tt
+    chosen (IsPlacedAs (was.paragraph_leaf lines)) (is_blank_rest m) None _ tt
     (text_same s m lines (begins s paragraph.Reached m))
 leaf_same s m (was.indented_leaf lines) =
-    chosen (IsPlacedAs (was.indented_leaf lines)) (is_blank_rest m || ((leading_space 4 m.left).columns == 4))
-    (Some (was.indented_leaf (lines ++ cut 4 m ∷ []))) None (refl, refl, refl) tt
+    chosen (IsPlacedAs (was.indented_leaf lines)) _ (Some (was.indented_leaf (lines ++ cut 4 m ∷ []))) None
+    (refl, refl, refl) tt
 leaf_same s m (was.fenced_leaf opening closed lines) =
     let same = IsPlacedAs (was.fenced_leaf opening closed lines) in
     let ends = Some (was.fenced_leaf opening true lines) in
     let more = Some (was.fenced_leaf opening false (lines ++ cut opening.fence.indent m ∷ [])) in
-    chosen same closed None (if closes s m opening.fence then ends else more) tt
-    (chosen same (closes s m opening.fence) ends more (refl, refl, refl) (refl, refl, refl))
+    chosen same _ None _ tt (chosen same (closes s m opening.fence) ends more (refl, refl, refl) (refl, refl, refl))
 leaf_same s m (was.html_leaf html closed lines) =
-    chosen (IsPlacedAs (was.html_leaf html closed lines)) (closed || (is_blank_rest m && ends_at_blank html)) None
+    chosen (IsPlacedAs (was.html_leaf html closed lines)) _ None
     (Some (was.html_leaf html (ends_html html m) (lines ++ m ∷ []))) tt (refl, refl, refl)
 leaf_same s m (was.metadata_leaf kind closed lines) =
     let same = IsPlacedAs (was.metadata_leaf kind closed lines) in
     let ends = Some (was.metadata_leaf kind true lines) in
     let more = Some (was.metadata_leaf kind false (lines ++ m ∷ [])) in
-    chosen same closed None (if closes_metadata kind m.left.bytes then ends else more) tt
+    chosen same _ None _ tt
     (chosen same (closes_metadata kind m.left.bytes) ends more (refl, refl, refl) (refl, refl, refl))
 leaf_same s m (was.table_leaf ended head alignments rows) =
-    chosen (IsPlacedAs (was.table_leaf ended head alignments rows))
-    (ended || is_blank_rest m || not (is_row s (text_line m))) None
+    chosen (IsPlacedAs (was.table_leaf ended head alignments rows)) _ None
     (Some (was.table_leaf false head alignments (rows ++ text_line m ∷ []))) tt (refl, refl, refl)
 leaf_same s m other = tt
 
@@ -182,8 +171,8 @@ lines_placed in_list s m b end before (first ∷ next ∷ lines) place =
 table_placed : (in_list : Bool) (s : Source) (m : SourceLine) (b : Block) (kind : Kind) → MayBeIn in_list kind
     → IfSome (table_with s m b kind) (AreItemsInLists in_list)
 table_placed in_list s m b (was.paragraph_leaf lines) may =
-    chosen (AreItemsInLists in_list) (is_blank_rest m || not (reads_tables s)) None
-    (table_of_lines s m b b.first [] lines) tt (lines_placed in_list s m b b.first [] lines (may refl))
+    chosen (AreItemsInLists in_list) (is_blank_rest m || not (reads_tables s)) None _ tt
+    (lines_placed in_list s m b b.first [] lines (may refl))
 table_placed in_list s m b other may = tt
 
 -- a paragraph that goes on lazily
@@ -198,10 +187,10 @@ lazy_placed : (in_list : Bool) (m : SourceLine) (blocks : Forest Block) → AreI
 unfolding with_lazy
 lazy_placed in_list m nil are = tt
 lazy_placed in_list m (node b below nil) are =
-    let around : Forest Block → Forest Block = λ f. node (record b { last = m.next }) f nil in
-    or_both (AreItemsInLists in_list) (with_lazy_text m b below b.kind) (option_map around (with_lazy m below))
+    or_both (AreItemsInLists in_list) (with_lazy_text m b below b.kind) _
     (lazy_text_placed in_list m b below b.kind are.0 are.1)
-    (mapped (AreItemsInLists (is_list b.kind)) (AreItemsInLists in_list) around (λ f placed. (are.0, placed, tt))
+    (mapped (AreItemsInLists (is_list b.kind)) (AreItemsInLists in_list)
+    (λ (f : Forest Block). node (record b { last = m.next }) f nil) (λ f placed. (are.0, placed, tt))
     (with_lazy m below) (lazy_placed (is_list b.kind) m below are.1))
 lazy_placed in_list m (node b below (node c others after)) are =
     mapped (AreItemsInLists in_list) (AreItemsInLists in_list) (node b below) (λ f placed. (are.0, are.1, placed))
@@ -213,13 +202,10 @@ lazy_placed in_list m (node b below (node c others after)) are =
 module _ (s : Source) (m : SourceLine) (below : Forest Block) (inner : SourceLine → Option (Forest Block)) where
   rest_placed : AreItemsInLists false below → ((n : SourceLine) → IfSome (inner n) (AreItemsInLists false))
       → (rest : Option LineLeft) → IfSome (with_rest s m below inner rest) (AreItemsInLists false)
-  rest_placed are placed None =
-      chosen (AreItemsInLists false) (not (is_blank_rest m) && is_text (begins s paragraph.Lazy m)) (with_lazy m below)
-      None (lazy_placed false m below are) tt
+  rest_placed are placed None = chosen (AreItemsInLists false) _ _ None (lazy_placed false m below are) tt
   rest_placed are placed (Some rest) =
-      unwrapped (AreItemsInLists false) (inner (rest_inside rest m))
-      (followed_by below (line_block s (rest_inside rest m))) (placed (rest_inside rest m))
-      (both_placed false below (line_block s (rest_inside rest m)) are (line_placed s (rest_inside rest m)))
+      unwrapped (AreItemsInLists false) _ _ (placed (rest_inside rest m))
+      (both_placed false below _ are (line_placed s (rest_inside rest m)))
 
   container_placed : (kind : Kind) → AreItemsInLists (is_list kind) below
       → ((n : SourceLine) → IfSome (inner n) (AreItemsInLists (is_list kind)))
@@ -227,17 +213,14 @@ module _ (s : Source) (m : SourceLine) (below : Forest Block) (inner : SourceLin
   container_placed was.quote_container are placed = rest_placed are placed (past_quote m.left)
   container_placed (was.alert_container kind) are placed = rest_placed are placed (past_quote m.left)
   container_placed (was.list_container marker) are placed =
-      or_both (AreItemsInLists true) (inner m) (option_map (followed_by below) (next_item s m marker)) (placed m)
+      or_both (AreItemsInLists true) (inner m) _ (placed m)
       (mapped (AreItemsInLists true) (AreItemsInLists true) (followed_by below)
       (λ new more. both_placed true below new are more) (next_item s m marker) (next_placed s m marker))
   container_placed (was.item_container indent) are placed =
-      chosen (AreItemsInLists false) (is_blank_rest m && is_nil below) None
-      (with_rest s m below inner (past_indent indent m.left)) tt
-      (rest_placed are placed (past_indent indent m.left))
+      chosen (AreItemsInLists false) _ None _ tt (rest_placed are placed (past_indent indent m.left))
   container_placed (was.footnote_container label) are placed =
-      let part = past_footnote (not s.syntax.old_footnotes) m.left in
-      chosen (AreItemsInLists false) (is_blank_rest m && s.syntax.old_footnotes) None
-      (with_rest s m below inner part) tt (rest_placed are placed part)
+      chosen (AreItemsInLists false) _ None _ tt
+      (rest_placed are placed (past_footnote (not s.syntax.old_footnotes) m.left))
   container_placed other are placed = tt
 
   block_placed : (in_list : Bool) (b : Block) → MayBeIn in_list b.kind → AreItemsInLists (is_list b.kind) below
@@ -246,16 +229,12 @@ module _ (s : Source) (m : SourceLine) (below : Forest Block) (inner : SourceLin
   block_placed in_list b may are placed =
       let as_leaf : Kind → Forest Block = λ kind. node (record b { last = m.next; kind = kind }) below nil in
       let around : Forest Block → Forest Block = λ f. node (record b { last = m.next }) f nil in
-      or_both (AreItemsInLists in_list) (table_with s m b b.kind)
-      (option_or (option_map as_leaf (leaf_with s m b.kind))
-      (option_map around (container_with s m below inner b.kind)))
-      (table_placed in_list s m b b.kind may)
-      (or_both (AreItemsInLists in_list) (option_map as_leaf (leaf_with s m b.kind))
-      (option_map around (container_with s m below inner b.kind))
+      or_both (AreItemsInLists in_list) (table_with s m b b.kind) _ (table_placed in_list s m b b.kind may)
+      (or_both (AreItemsInLists in_list) (option_map as_leaf (leaf_with s m b.kind)) _
       (mapped (IsPlacedAs b.kind) (AreItemsInLists in_list) as_leaf
       (λ kind same. (
         λ e. same.1 ∙ may (sym same.0 ∙ e),
-        subst (λ test. AreItemsInLists test below) (sym same.2) are,
+        rw same.2 are,
         tt,
       )) (leaf_with s m b.kind) (leaf_same s m b.kind))
       (mapped (AreItemsInLists (is_list b.kind)) (AreItemsInLists in_list) around (λ f more. (may, more, tt))
@@ -268,8 +247,7 @@ goes_placed : (in_list : Bool) (s : Source) (m : SourceLine) (blocks : Forest Bl
 unfolding goes_on
 goes_placed in_list s m nil are = tt
 goes_placed in_list s m (node b below nil) are =
-    block_placed s m below (goes_on s below) in_list b are.0 are.1
-    (λ n. goes_placed (is_list b.kind) s n below are.1)
+    block_placed s m below (goes_on s below) in_list b are.0 are.1 (λ n. goes_placed (is_list b.kind) s n below are.1)
 goes_placed in_list s m (node b below (node c others after)) are =
     mapped (AreItemsInLists in_list) (AreItemsInLists in_list) (node b below) (λ f placed. (are.0, are.1, placed))
     (goes_on s (node c others after) m) (goes_placed in_list s m (node c others after) are.2)
@@ -277,5 +255,5 @@ goes_placed in_list s m (node b below (node c others after)) are =
 pub line_keeps : (s : Source) (blocks : Forest Block) (l : SourceLine) → AreItemsInLists false blocks
     → AreItemsInLists false (with_line s blocks l)
 line_keeps s blocks l are =
-    unwrapped (AreItemsInLists false) (goes_on s blocks l) (followed_by blocks (line_block s l))
-    (goes_placed false s l blocks are) (both_placed false blocks (line_block s l) are (line_placed s l))
+    unwrapped (AreItemsInLists false) (goes_on s blocks l) _ (goes_placed false s l blocks are)
+    (both_placed false blocks _ are (line_placed s l))

@@ -1,9 +1,8 @@
 -- When the last block goes on in no line, and when it does so lazily inside some open containers.
-use Rattle.std.proofs.Common.{◌≡◌, ℕ, Bool, true, false, not, ◌&&◌, List, [], ◌∷◌, Option, Some, None}
-use Rattle.std.proofs.Common.{map, refl, sym, ap, ◌∙◌, subst}
+use Rattle.std.proofs.Common.{◌≡◌, ℕ, Bool, true, false, not, ◌&&◌, List, [], ◌∷◌, Option, Some, None, map, refl, sym}
+use Rattle.std.proofs.Common.{ap, ◌∙◌, subst}
 use Rattle.std.proofs.lemmas.Bool.{true≢false}
 use Rattle.std.proofs.lemmas.List.{map-append}
-use Rattle.std.specs.Prelude.{if◌then◌else◌}
 use Rattle.std.specs.Option.{option_map}
 use Rattle.markdown_base.specs.Forest.{Forest, nil, node}
 use Rattle.markdown_lines.specs.declared.block_start.Before.TheVariants as paragraph
@@ -15,11 +14,11 @@ use Rattle.markdown_builder.specs.declared.open_block.OpenBlock.{OpenBlock}
 use Rattle.markdown_block_rules.specs.BlockGrowth as was
 use Rattle.markdown_block_rules.specs.BlockGrowth.{Block, Kind, goes_on, is_text, lazily, with_lazy, with_line}
 use Rattle.markdown_plain.specs.Frames.{AreContainers, AreNested, AreOver, Frame, IsContainer, Reached, forgotten}
-use Rattle.markdown_plain.specs.Frames.{reached, rebuilt}
-use Rattle.markdown_plain.specs.Frames.{touched}
+use Rattle.markdown_plain.specs.Frames.{reached, rebuilt, touched}
 use Rattle.markdown_plain.specs.Settled.{AreOpen, IsBodyOf}
 use Rattle.markdown_plain.proofs.FramesLemmas.{container_goes_lazily, goes_on_last, inner_containers, rebuilt_in}
 use Rattle.markdown_plain.proofs.FramesLemmas.{touched_alike, with_lazy_last}
+use Rattle.markdown_plain.proofs.LeafTreesLemmas.{on_test}
 use Rattle.markdown_plain.proofs.ReachedLemmas.{inner_goes_lazily, last_goes_on, reached_next, reached_parts}
 
 -- ---- blocks that are over
@@ -58,10 +57,8 @@ leaf_goes_lazily_not l start first last other over = refl
 pub leaf_is_over : (s : Source) (before : Forest Block) (b : Block) → is_over b.kind ≡ true
     → AreOver s (followed_by before (node b nil nil))
 leaf_is_over s before b over l = (
-  goes_on_last s before b nil l
-      ∙ ap (option_map (followed_by before)) (leaf_goes_not s l b.start b.first b.last b.kind over),
-  with_lazy_last before b nil l
-      ∙ ap (option_map (followed_by before)) (leaf_goes_lazily_not l b.start b.first b.last b.kind over),
+  rw (goes_on_last s before b nil l, leaf_goes_not s l b.start b.first b.last b.kind over) refl,
+  rw (with_lazy_last before b nil l, leaf_goes_lazily_not l b.start b.first b.last b.kind over) refl,
 )
 
 pub nothing_is_over : (s : Source) → AreOver s nil
@@ -96,9 +93,8 @@ lazily_inside l [] inside are = in_none (with_lazy l inside)
     in_none None = refl
     in_none (Some blocks) = refl
 lazily_inside l (f ∷ frames) inside are =
-    container_goes_lazily f (rebuilt frames inside) l are.0
-    ∙ (ap (option_map (forgotten (touched l f))) (lazily_inside l frames inside are.1)
-    ∙ in_one (with_lazy l inside))
+    rw (container_goes_lazily f (rebuilt frames inside) l are.0, lazily_inside l frames inside are.1)
+    (in_one (with_lazy l inside))
   where
     in_one : (grown : Option (Forest Block))
         → option_map (forgotten (touched l f)) (option_map (rebuilt (map (touched l) frames)) grown)
@@ -109,8 +105,7 @@ lazily_inside l (f ∷ frames) inside are =
 -- a line that does not reach all open containers continues a paragraph lazily: all of them go on
 pub line_goes_lazily : (s : Source) (frames : List Frame) (inside : Forest Block) (l : SourceLine)
     (are : AreContainers frames) (nested : AreNested frames) (f : Frame) (others : List Frame) (grown : Forest Block)
-    → (reached s frames inside l).inner ≡ f ∷ others
-    → is_blank_rest (reached s frames inside l).rest ≡ false
+    → (reached s frames inside l).inner ≡ f ∷ others → is_blank_rest (reached s frames inside l).rest ≡ false
     → is_text (begins s paragraph.Lazy (reached s frames inside l).rest) ≡ true
     → with_lazy (reached s frames inside l).rest inside ≡ Some grown
     → with_line s (rebuilt frames inside) l ≡ rebuilt (map (touched l) frames) grown
@@ -139,19 +134,15 @@ nothing_goes_on s frames inside l are over = decided r.inner refl
     r = reached s frames inside l
 
     inner : AreContainers r.inner
-    inner = inner_containers r.outer r.inner (subst AreContainers (sym (reached_parts s frames inside l)) are)
+    inner = inner_containers r.outer r.inner (rw (reached_parts s frames inside l) are)
 
     never : lazily s r.rest (rebuilt r.inner inside) ≡ None
     never =
-        either_none (not (is_blank_rest r.rest) && is_text (begins s paragraph.Lazy r.rest))
-        (lazily_inside r.rest r.inner inside inner
-        ∙ ap (option_map (rebuilt (map (touched r.rest) r.inner))) (over r.rest).1)
-      where
-        either_none : (test : Bool) → with_lazy r.rest (rebuilt r.inner inside) ≡ None
-            → (if test then with_lazy r.rest (rebuilt r.inner inside) else None) ≡ None
-        either_none true none = none
-        either_none false none = refl
+        let none : with_lazy r.rest (rebuilt r.inner inside) ≡ None =
+        rw (lazily_inside r.rest r.inner inside inner, (over r.rest).1) refl in
+        on_test (λ o. o ≡ None) (not (is_blank_rest r.rest) && is_text (begins s paragraph.Lazy r.rest)) _ None
+        (λ test. none) (λ test. refl)
 
     decided : (frames_inside : List Frame) → r.inner ≡ frames_inside → goes_on s (rebuilt r.inner inside) r.rest ≡ None
-    decided [] is = ap (λ (fs : List Frame). goes_on s (rebuilt fs inside) r.rest) is ∙ (over r.rest).0
+    decided [] is = rw is (over r.rest).0
     decided (f ∷ others) is = inner_goes_lazily s frames inside l f others are is ∙ never

@@ -27,8 +27,7 @@ use Rattle.markdown_plain.specs.OpenLeaves.{IsOpenIn, is_leaf, leaf_block}
 use Rattle.markdown_plain.specs.ReachedFrames.{IsAtMostLeaf, IsBefore, IsReached}
 use Rattle.markdown_plain.specs.ReachedLines.{Before, IsReachedBy, blocks_in}
 use Rattle.markdown_plain.specs.declared.containers.Reached as code
-use Rattle.markdown_plain.specs.Settled.{AreOpen, EmptyKnown, EmptyKnownIn, IsLooseAs, are_loose}
-use Rattle.markdown_plain.specs.Settled.{placed_end}
+use Rattle.markdown_plain.specs.Settled.{AreOpen, EmptyKnown, EmptyKnownIn, IsBuilt, IsLooseAs, are_loose, placed_end}
 use Rattle.markdown_plain.specs.Standing.{HasLast, IsSource, KnowsLast, Stands, with_last}
 use Rattle.markdown_plain.proofs.BlanksKnownLemmas.{same_touched}
 use Rattle.markdown_plain.proofs.FramesLemmas.{ends_in_block, goes_on_last}
@@ -62,19 +61,25 @@ pub record OpenParts (pass : Pass) (frames : List Frame) (now : Forest Block) : 
   pub nested : AreNested frames
   pub empty : EmptyKnown (is_innermost leaf && pass.looseness.item_is_empty) frames now
 
-pub open_parts : (s : Source) (pass : Pass) (frames : List Frame) (inside : Forest Block) (last : Option Block)
-    → HasLast s pass frames inside last → IsLooseAs pass.looseness frames (with_last inside last)
-    → OpenParts pass frames (with_last inside last)
-open_parts s pass frames inside None has loose = record {
+-- no leaf is open
+no_leaf_parts : (s : Source) (pass : Pass) (frames : List Frame) (inside now : Forest Block)
+    → IsBuilt s pass.placing.builder frames inside → IsLooseAs pass.looseness frames now → OpenParts pass frames now
+no_leaf_parts s pass frames inside now built loose = record {
   containers = pass.placing.builder.blocks;
   leaf = [];
   blocks = sym (append-nil pass.placing.builder.blocks);
-  without = without_built s pass.placing.builder frames inside has.0.stands.built;
+  without = without_built s pass.placing.builder frames inside built;
   alone = tt;
-  are = has.0.stands.built.blocks;
-  nested = has.0.stands.built.nested;
+  are = built.blocks;
+  nested = built.nested;
   empty = loose.empty;
 }
+
+pub open_parts : (s : Source) (pass : Pass) (frames : List Frame) (inside : Forest Block) (last : Option Block)
+    → HasLast s pass frames inside last → IsLooseAs pass.looseness frames (with_last inside last)
+    → OpenParts pass frames (with_last inside last)
+open_parts s pass frames inside None has loose =
+    no_leaf_parts s pass frames inside inside has.0.stands.built loose
 open_parts s pass frames inside (Some b) has loose = by_held has.0 has.1 has.2
   where
     by_held : (held : Option (List SourceLine)) → MayEnd s pass frames inside b held → KnowsLast pass b held
@@ -92,16 +97,8 @@ open_parts s pass frames inside (Some b) has loose = by_held has.0 has.1 has.2
           nested = is.around.nested;
           empty = none_empty frames (followed_by inside (leaf_block b)) (ends_in_block inside b nil);
         }
-    by_held (Some sources) may knows = record {
-      containers = pass.placing.builder.blocks;
-      leaf = [];
-      blocks = sym (append-nil pass.placing.builder.blocks);
-      without = without_built s pass.placing.builder frames inside may.unended.built;
-      alone = tt;
-      are = may.unended.built.blocks;
-      nested = may.unended.built.nested;
-      empty = loose.empty;
-    }
+    by_held (Some sources) may knows =
+        no_leaf_parts s pass frames inside (followed_by inside (leaf_block b)) may.unended.built loose
 
 -- so it is known how far a line reaches
 pub before_line : (s : Source) (pass : Pass) (line : Line) (frames : List Frame) (inside : Forest Block)
@@ -247,11 +244,9 @@ pub loose_grown : (l : SourceLine) (now : Looseness) (frames : List Frame) (insi
 loose_grown l now frames inside b c same loose =
     let one = followed_by inside (leaf_block b) in
     let other = followed_by inside (leaf_block c) in
-    let apart : are_separated one ≡ are_separated other = separated_end inside b
-    ∙ (ap (λ blank. are_separated inside || (ends_blank false inside && not blank)) same
-    ∙ sym (separated_end inside c)) in
-    let alike = loose_end inside b
-    ∙ (ap (λ s. (s || hold_separated inside) || false) apart ∙ sym (loose_end inside c)) in
+    let apart : are_separated one ≡ are_separated other =
+    rw (separated_end inside b, separated_end inside c, same) refl in
+    let alike : is_loose one ≡ is_loose other = rw (loose_end inside b, loose_end inside c, apart) refl in
     same_touched l now frames other (record {
       lists = loose.lists ∙ lists_alike frames one other apart alike;
       empty = empty_alike now.item_is_empty frames one other
@@ -262,10 +257,8 @@ loose_grown l now frames inside b c same loose =
 pub lists_before_blank : (frames : List Frame) (inside : Forest Block) (b : Block) → b.kind ≡ was.blank_line
     → are_loose frames inside ≡ are_loose frames (followed_by inside (leaf_block b))
 lists_before_blank frames inside b blank =
-    let apart = ap (λ kind. are_separated inside || (ends_blank false inside && not (is_blank_block kind))) blank
-    ∙ (ap (λ t. are_separated inside || t) (and-false (ends_blank false inside))
-    ∙ or-false (are_separated inside)) in
-    let all = separated_end inside b ∙ apart in
+    let all : are_separated (followed_by inside (leaf_block b)) ≡ are_separated inside =
+    rw (separated_end inside b, blank, and-false (ends_blank false inside)) (or-false (are_separated inside)) in
     lists_alike frames inside (followed_by inside (leaf_block b)) (sym all)
     (sym (loose_end inside b ∙ (or-false (are_separated (followed_by inside (leaf_block b)) || hold_separated inside)
     ∙ ap (λ s. s || hold_separated inside) all)))

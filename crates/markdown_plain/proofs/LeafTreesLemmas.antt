@@ -1,12 +1,11 @@
 -- Items in an open leaf, lines of code among them, and whole leaves.
 use Rattle.std.proofs.Common.{◌≡◌, ℕ, zero, suc, ◌+◌, ◌-◌, ◌<◌, ◌≤◌, Bool, true, false, List, [], ◌∷◌, ◌++◌, length}
-use Rattle.std.proofs.Common.{take}
 use Rattle.std.proofs.Common.{refl, sym, ap, ◌∙◌, subst, arith, append_assoc, append-nil}
-use Rattle.std.specs.Option.{option_map}
 use Rattle.std.specs.Prelude.{Option, Some, None, cond, nat_le, nat_lt, ◌==◌, ◌||◌, if◌then◌else◌, replicate, slice_get}
 use Rattle.std.proofs.lemmas.Bool.Decides.{nat_tests}
 use Rattle.std.proofs.lemmas.Option.{same_Some}
 use Rattle.markdown_base.specs.Bytes.{space, tab}
+use Rattle.markdown_base.specs.Event.{HeadingView}
 use Rattle.markdown_base.specs.Forest.{Forest, nil, node}
 use Rattle.markdown_base.specs.HeadingWords.{HeadingWords, words_of, worded_heading}
 use Rattle.markdown_base.specs.declared.block_parts.HeadingAttributes.{HeadingAttributes}
@@ -16,7 +15,7 @@ use Rattle.markdown_base.specs.declared.item.ItemBody.TheVariants as body
 use Rattle.markdown_base.specs.declared.tag.Alignment.{Alignment}
 use Rattle.markdown_base.specs.declared.tag.HeadingLevel.{HeadingLevel}
 use Rattle.markdown_builder.specs.declared.open_block.OpenBlock.{OpenBlock}
-use Rattle.markdown_builder.specs.BuilderView.{BuilderView, AppendsItem, AppendsText, Opens, innermost_block, parts_of}
+use Rattle.markdown_builder.specs.BuilderView.{BuilderView, AppendsItem, AppendsText, innermost_block, parts_of}
 use Rattle.markdown_builder.specs.BuilderView.{with_items}
 use Rattle.markdown_builder.specs.Shown.{Shown, chain_of, plain_item, settled_below, shown_item, synthesized_item}
 use Rattle.markdown_builder.specs.Shown.{tight_shown, with_block}
@@ -27,20 +26,20 @@ use Rattle.markdown_scan.specs.LineStart.{LineLeft, Space, column_after, leading
 use Rattle.markdown_lines.specs.declared.held_line.HeldLine.{HeldLine}
 use Rattle.markdown_lines.specs.declared.line.Line.{Line}
 use Rattle.markdown_lines.specs.declared.position.Position.{Position}
-use Rattle.markdown_lines.specs.Lines.{IsNextContent}
 use Rattle.markdown_lines.specs.Positions.{left_from}
 use Rattle.markdown_lines.specs.declared.braces.Braces.{Braces}
 use Rattle.markdown_base.specs.Source.{Source}
-use Rattle.markdown_lines.specs.HeadingAttributes.{AreAttributes, classes_among, heading_of_words, id_among, words_in}
+use Rattle.markdown_lines.specs.HeadingAttributes.{AreAttributes, heading_of_words, words_in}
 use Rattle.markdown_lines.specs.SourceLines.{SourceLine, cut}
-use Rattle.markdown_block_rules.specs.BlockRules.{shown_heading, shown_over}
+use Rattle.markdown_block_rules.specs.BlockRules.{shown_heading}
 use Rattle.markdown_block_rules.specs.LineContents.{source_line, source_lines}
 use Rattle.markdown_plain.specs.declared.placing.Placing.{Placing}
-use Rattle.markdown_plain.specs.Fitting.{BeginsAtContent, OpensHeadingOf, PutsBlock, stepped}
-use Rattle.markdown_plain.specs.LeafTrees.{HasMoreTexts, HasTrees}
+use Rattle.markdown_plain.specs.Fits.{after_lines}
+use Rattle.markdown_plain.specs.Fitting.{GoesOn, OpensHeadingOf, PutsBlock, stepped}
+use Rattle.markdown_plain.specs.LeafTrees.{AddsLines, HasItems, HasMoreTexts, HasTrees}
 use Rattle.markdown_plain.specs.OpenBlocks.{outer_of}
 use Rattle.markdown_plain.proofs.OpenBlocksLemmas.{innermost_of_opened}
-use Rattle.markdown_plain.specs.CodeLines.{owed_spaces}
+use Rattle.markdown_plain.specs.CodeLines.{after_line, owed_spaces, rest_from}
 use Rattle.markdown_plain.specs.HeldSources.{AreHeld, IsHeld, IsRest}
 
 -- ---- levels
@@ -71,9 +70,11 @@ put_leaf : (levels : List (Forest Shown)) (items : List Shown) (a : Shown) → (
     → is_tight_list a.item.body ≡ false
     → with_block (with_items (levels ++ nil ∷ []) items) a ≡ with_trees levels (node a (chain_of items) nil)
 put_leaf levels items a some e =
-    ap (λ ls. with_block ls a) (trees_last levels nil (chain_of items))
-    ∙ (closed_tree levels (chain_of items) a some
-    ∙ ap (λ f. with_trees levels (node a f nil)) (settled_leaf a (chain_of items) e))
+    rw (
+      trees_last levels nil (chain_of items),
+      closed_tree levels (chain_of items) a some,
+      settled_leaf a (chain_of items) e,
+    ) refl
 
 -- the innermost block is the last
 pub same_block : (blocks outer others : List OpenBlock) (a b : OpenBlock) → blocks ≡ outer ++ a ∷ []
@@ -90,32 +91,7 @@ pub put_opened : (levels : List (Forest Shown)) (now new : BuilderView) (outer :
     → new.levels ≡ with_trees levels (node a (chain_of items) nil)
 put_opened levels now new outer block items a blocks filled is leaf put some =
     let same = same_block now.blocks outer (outer_of now.blocks) block put.block blocks put.was in
-    put.levels
-    ∙ (ap (λ (b : OpenBlock). with_block now.levels
-    (shown_item (parts_of now) (record { start = b.start; end = now.at; body = b.body }))) (sym same)
-    ∙ (ap (with_block now.levels) is
-    ∙ (ap (λ ls. with_block ls a) filled ∙ put_leaf levels items a some leaf)))
-
--- an HTML block that was opened and filled, and moved to its first content byte, is put into the innermost level
-pub put_begun : (old opened filled begun new : BuilderView) (from : ℕ) (items : List Shown)
-    → Opens (stepped old from) opened body.HtmlBlock → filled.blocks ≡ opened.blocks
-    → filled.levels ≡ with_items opened.levels items → BeginsAtContent filled begun → begun.levels ≡ filled.levels
-    → PutsBlock begun new
-    → (start : ℕ) × IsNextContent filled.text from (Some start)
-    × HasTrees old new (shown_over start begun.at body.HtmlBlock None (chain_of items))
-put_begun old opened filled begun new from items opens blocks levels begins kept put =
-    let block : OpenBlock = record { start = from; body = body.HtmlBlock } in
-    let there = blocks ∙ ap (λ (b : BuilderView). b.blocks) opens in
-    let same = same_block filled.blocks old.blocks (outer_of filled.blocks) block begins.blocks.block there
-    begins.blocks.was in (
-      begins.start,
-      subst (λ (b : OpenBlock). IsNextContent filled.text b.start (Some begins.start)) (sym same) begins.content,
-      λ some. put_opened old.levels begun new (outer_of filled.blocks)
-          (record begins.blocks.block { start = begins.start }) items _ begins.blocks.becomes
-          (kept ∙ (levels ∙ ap (λ (b : BuilderView). with_items b.levels items) opens))
-          (ap (λ (b : OpenBlock). shown_item (parts_of begun)
-          (record { start = begins.start; end = begun.at; body = b.body })) (sym same)) refl put some,
-    )
+    rw (put.levels, ← same, is, filled) (put_leaf levels items a some leaf)
 
 -- ---- headings
 
@@ -127,38 +103,24 @@ get_last (y ∷ xs) x = get_last xs x
 -- attributes are those of these words
 pub words_heading : (level : HeadingLevel) (made : HeadingAttributes) (words : List (List ℕ)) → AreAttributes made words
     → worded_heading level (words_of made) ≡ heading_of_words level words
-words_heading level made words are =
-    let w = words_of made in
-    ap (λ id. record { level = level; id = id; classes = w.classes; attributes = w.attributes }) are.id
-    ∙ (ap (λ classes. record { level = level; id = id_among words; classes = classes; attributes = w.attributes })
-    are.classes
-    ∙ ap (λ names. record {
-      level = level;
-      id = id_among words;
-      classes = classes_among words;
-      attributes = names;
-    }) are.names)
+words_heading level made words are = rw (are.id, are.classes, are.names) refl
 
 -- a heading as it is shown, where its attributes were appended last
-attributed_shown : (texts : List (List ℕ)) (alignments : List (List Alignment)) (headings before : List HeadingWords)
-    (words : HeadingWords) (level : HeadingLevel) (ix : HeadingIndex) (start end : ℕ)
-    → headings ≡ before ++ words ∷ [] → ix.0 ≡ length before + 1
+pub attributed_shown : (texts : List (List ℕ)) (alignments : List (List Alignment))
+    (headings before : List HeadingWords) (words : HeadingWords) (h : HeadingView) (level : HeadingLevel)
+    (ix : HeadingIndex) (start end : ℕ) → headings ≡ before ++ words ∷ [] → ix.0 ≡ length before + 1
+    → worded_heading level words ≡ h
     → shown_item (record { texts = texts; headings = headings; alignments = alignments })
     (record { start = start; end = end; body = body.Heading level (Some ix) })
     ≡ record {
       item = record { start = start; end = end; body = body.Heading level (Some (record { 0 = 1 })) };
       text = None;
-      heading = Some (worded_heading level words);
+      heading = Some h;
       alignments = [];
     }
-attributed_shown texts alignments headings before words level ix start end more number =
+attributed_shown texts alignments headings before words h level ix start end more number is =
     let place : ix.0 - 1 ≡ length before = omega (arith, number) in
-    ap (λ found. record {
-      item = record { start = start; end = end; body = body.Heading level (Some (record { 0 = 1 })) };
-      text = None;
-      heading = option_map (worded_heading level) found;
-      alignments = [];
-    }) (ap (λ n. slice_get headings n) place ∙ (ap (λ hs. slice_get hs (length before)) more ∙ get_last before words))
+    rw (place, more, get_last before words, is) refl
 
 -- a heading that was opened and filled is put into the innermost level
 pub put_heading : (s : Source) (old opened now new : BuilderView) (level : HeadingLevel) (braces : Option Braces)
@@ -177,14 +139,9 @@ put_heading s old opened now new level (Some braces) items text opens blocks hea
     put_opened old.levels now new old.blocks (record { start = old.at; body = body.Heading level (Some ix) }) items _
     (blocks ∙ ap (λ (b : BuilderView). b.blocks) is)
     (filled ∙ ap (λ (b : BuilderView). with_items b.levels items) is)
-    (attributed_shown now.texts now.alignments now.headings old.headings words level ix old.at now.at
+    (attributed_shown now.texts now.alignments now.headings old.headings words _ level ix old.at now.at
     (headings ∙ ap (λ (b : BuilderView). b.headings) is) opens.2.1
-    ∙ ap (λ h. record {
-      item = record { start = old.at; end = now.at; body = body.Heading level (Some (record { 0 = 1 })) };
-      text = None;
-      heading = Some h;
-      alignments = [];
-    }) (opens.1 ∙ ap (λ t. heading_of_words level (words_in t braces)) (sym text))) refl put some
+    (opens.1 ∙ ap (λ t. heading_of_words level (words_in t braces)) (sym text))) refl put some
 
 -- ---- lines of code
 
@@ -201,81 +158,6 @@ pub on_test : {A : Type 0} (P : A → Type 0) (test : Bool) (x y : A) → (test 
 on_test P true x y first second = first refl
 on_test P false x y first second = second refl
 
--- the columns that a tab owes before a line
-code_owed : (levels owed : List (Forest Shown)) (line : HeldLine) (source : SourceLine) → IsHeld line source
-    → (line.owed ≡ 0 → owed ≡ levels)
-    → (0 < line.owed
-    → owed ≡ with_items levels (synthesized_item line.start line.start (owed_spaces line.owed) ∷ []))
-    → owed ≡ with_items levels (if source.left.owed == 0 then []
-    else synthesized_item source.left.scanned source.left.scanned (replicate source.left.owed space) ∷ [])
-code_owed levels owed line source is none some =
-    on_test (λ items. owed ≡ with_items levels items) (source.left.owed == 0) [] _
-    (λ e. none (grind (arith, nat_tests, e, is.owed)) ∙ sym (no_items levels))
-    (λ e. let more : 0 < line.owed = grind (arith, nat_tests, e, is.owed) in
-    some more ∙ ap (λ i. with_items levels (i ∷ [])) (ap (λ t. synthesized_item line.start line.start t)
-    (owed_is line.owed more is.few ∙ ap (λ n. replicate n space) is.owed)
-    ∙ ap (λ n. synthesized_item n n (replicate source.left.owed space)) is.start))
-
--- and then the line
-code_rest : (owed whole : List (Forest Shown)) (b : ItemBody) (line : HeldLine) (source : SourceLine)
-    → IsHeld line source
-    → (line.next ≤ line.start → whole ≡ owed)
-    → (line.start < line.next → whole ≡ with_items owed (plain_item line.start line.next b ∷ []))
-    → whole ≡ with_items owed (if nat_lt source.left.scanned source.next
-    then plain_item source.left.scanned source.next b ∷ [] else [])
-code_rest owed whole b line source is over more =
-    on_test (λ items. whole ≡ with_items owed items) (nat_lt source.left.scanned source.next) _ []
-    (λ e. more (grind (arith, nat_tests, e, is.start, is.next))
-    ∙ ap (λ i. with_items owed (i ∷ [])) (ap (λ n. plain_item n line.next b) is.start
-    ∙ ap (λ n. plain_item source.left.scanned n b) is.next))
-    (λ e. over (grind (arith, nat_tests, e, is.start, is.next)) ∙ sym (no_items owed))
-
--- the columns that a tab owes before a line, and then the line, are the items of a line of code
-code_line : (levels owed whole : List (Forest Shown)) (b : ItemBody) (line : HeldLine) (source : SourceLine)
-    → IsHeld line source
-    → (line.owed ≡ 0 → owed ≡ levels)
-    → (0 < line.owed
-    → owed ≡ with_items levels (synthesized_item line.start line.start (owed_spaces line.owed) ∷ []))
-    → (line.next ≤ line.start → whole ≡ owed)
-    → (line.start < line.next → whole ≡ with_items owed (plain_item line.start line.next b ∷ []))
-    → whole ≡ with_items levels (source_line b source)
-code_line levels owed whole b line source is none some over more =
-    let start = source.left.scanned in
-    let first = code_owed levels owed line source is none some in
-    let after : List Shown = if nat_lt start source.next then plain_item start source.next b ∷ [] else [] in
-    let second : whole ≡ with_items owed after =
-    code_rest owed whole b line source is over more in
-    second ∙ (ap (λ ls. with_items ls after) first ∙ more_items levels _ after)
-
--- the columns that a tab owes at a byte offset were added to these levels
-pub record OwedAdded (levels : List (Forest Shown)) (start owed : ℕ) (now : BuilderView) : Type 0 where
-  pub at : now.at ≡ start
-  pub none : owed ≡ 0 → now.levels ≡ levels
-  pub some : 0 < owed → now.levels ≡ with_items levels (synthesized_item start start (owed_spaces owed) ∷ [])
-
-pub owed_added : (old here new : Placing) (start owed : ℕ) → here.builder ≡ stepped old.builder start
-    → (0 < owed → AppendsText here.builder new.builder here.builder.at (owed_spaces owed)) → (owed ≡ 0 → new ≡ here)
-    → OwedAdded old.builder.levels start owed new.builder
-owed_added old here new start zero step some none =
-    let same = none refl in
-    let is : new.builder ≡ stepped old.builder start = ap (λ (p : Placing). p.builder) same ∙ step in
-    record {
-      at = ap (λ (b : BuilderView). b.at) is;
-      none = λ e. ap (λ (b : BuilderView). b.levels) is;
-      some = λ more. absurd (omega (arith, more));
-    }
-owed_added old here new start (suc owed) step some none =
-    let more = some (omega arith) in
-    let at = ap (λ (b : BuilderView). b.at) step in
-    record {
-      at = ap (λ (b : BuilderView). b.at) more ∙ at;
-      none = λ e. absurd (omega (arith, e));
-      some = λ any. ap (λ (b : BuilderView). b.levels) more
-          ∙ (ap (λ ls. with_items ls (synthesized_item here.builder.at here.builder.at (owed_spaces (suc owed)) ∷ []))
-          (ap (λ (b : BuilderView). b.levels) step)
-          ∙ ap (λ n. with_items old.builder.levels (synthesized_item n n (owed_spaces (suc owed)) ∷ [])) at);
-    }
-
 -- texts after more texts
 pub texts_after : (old now new : BuilderView) → HasMoreTexts old now → HasMoreTexts now new → HasMoreTexts old new
 texts_after old now new first second = record {
@@ -287,67 +169,97 @@ texts_after old now new first second = record {
 pub no_text : (old new : BuilderView) → new.texts ≡ old.texts → HasMoreTexts old new
 no_text old new same = record { more = []; are = same ∙ sym (append-nil old.texts) }
 
--- the text that a tab owes follows the others
-pub owed_text : (old here new : Placing) (start owed : ℕ) → here.builder ≡ stepped old.builder start
+-- the columns that a tab owes at a byte offset were added to the open leaf
+pub record OwedAdded (old now : BuilderView) (start owed : ℕ) : Type 0 where
+  pub goes_on : GoesOn old now start
+  pub texts : HasMoreTexts old now
+  pub none : owed ≡ 0 → now.levels ≡ old.levels
+  pub some : 0 < owed → now.levels ≡ with_items old.levels (synthesized_item start start (owed_spaces owed) ∷ [])
+
+pub owed_added : (old here new : Placing) (start owed : ℕ) → here.builder ≡ stepped old.builder start
     → (0 < owed → AppendsText here.builder new.builder here.builder.at (owed_spaces owed)) → (owed ≡ 0 → new ≡ here)
-    → HasMoreTexts old.builder new.builder
-owed_text old here new start zero step some none =
-    let same = none refl in
-    no_text old.builder new.builder (ap (λ (p : Placing). p.builder.texts) same
-    ∙ ap (λ (b : BuilderView). b.texts) step)
-owed_text old here new start (suc owed) step some none =
-    let more = some (omega arith) in
+    → OwedAdded old.builder new.builder start owed
+owed_added old here new start zero step some none =
+    let is : new.builder ≡ stepped old.builder start = ap (λ (p : Placing). p.builder) (none refl) ∙ step in
     record {
-      more = owed_spaces (suc owed) ∷ [];
-      are = ap (λ (b : BuilderView). b.texts) more
-          ∙ ap (λ (b : BuilderView). b.texts ++ owed_spaces (suc owed) ∷ []) step;
+      goes_on = rw is refl;
+      texts = no_text old.builder new.builder (ap (λ (v : BuilderView). v.texts) is);
+      none = λ e. ap (λ (v : BuilderView). v.levels) is;
+      some = λ more. absurd (omega (arith, more));
+    }
+owed_added old here new start (suc owed) step some none =
+    let is = rw step at (some (omega arith)) in
+    record {
+      goes_on = rw is refl;
+      texts = record { more = owed_spaces (suc owed) ∷ []; are = ap (λ (v : BuilderView). v.texts) is };
+      none = λ e. absurd (omega (arith, e));
+      some = λ more. ap (λ (v : BuilderView). v.levels) is;
     }
 
+-- the columns that a tab owes before a line, and then the line, are the items of a line of code
+code_line : (old owed whole : BuilderView) (b : ItemBody) (line : HeldLine) (source : SourceLine)
+    → IsHeld line source → OwedAdded old owed line.start line.owed
+    → (line.next ≤ line.start → whole.levels ≡ owed.levels)
+    → (line.start < line.next → whole.levels ≡ with_items owed.levels (plain_item line.start line.next b ∷ []))
+    → HasItems old whole (source_line b source)
+code_line old owed whole b line source is o over more =
+    rest ∙ (ap (λ ls. with_items ls after) first ∙ more_items old.levels _ after)
+  where
+    first : owed.levels ≡ with_items old.levels (if source.left.owed == 0 then []
+        else synthesized_item source.left.scanned source.left.scanned (replicate source.left.owed space) ∷ [])
+    first =
+        on_test (λ items. owed.levels ≡ with_items old.levels items) (source.left.owed == 0) [] _
+        (λ e. o.none (grind (arith, nat_tests, e, is.owed)) ∙ sym (no_items old.levels))
+        (λ e. let any : 0 < line.owed = grind (arith, nat_tests, e, is.owed) in
+        rw (← is.start, ← is.owed, ← owed_is line.owed any is.few) (o.some any))
+
+    after : List Shown
+    after =
+        if nat_lt source.left.scanned source.next then plain_item source.left.scanned source.next b ∷ [] else []
+
+    rest : whole.levels ≡ with_items owed.levels after
+    rest =
+        on_test (λ items. whole.levels ≡ with_items owed.levels items) (nat_lt source.left.scanned source.next) _ []
+        (λ e. rw (← is.start, ← is.next) (more (grind (arith, nat_tests, e, is.start, is.next))))
+        (λ e. over (grind (arith, nat_tests, e, is.start, is.next)) ∙ sym (no_items owed.levels))
+
+-- ---- lines that are added
+
+-- the items of one line
+one_line : (old new : BuilderView) (b : ItemBody) (line : HeldLine)
+    → ((source : SourceLine) → IsHeld line source → HasItems old new (source_line b source))
+    → (sources : List SourceLine) → AreHeld (line ∷ []) sources → HasItems old new (source_lines b sources)
+one_line old new b line one [] are = absurd are
+one_line old new b line one (source ∷ []) are =
+    one source are.0 ∙ ap (with_items old.levels) (sym (append-nil (source_line b source)))
+one_line old new b line one (source ∷ other ∷ sources) are = absurd are.1
+
 -- a line that is over when what a tab owes was added
-pub line_over : (levels : List (Forest Shown)) (b : ItemBody) (line : HeldLine) (source : SourceLine)
-    (now : BuilderView) → IsHeld line source → OwedAdded levels line.start line.owed now → line.next ≤ line.start
-    → now.levels ≡ with_items levels (source_line b source)
-line_over levels b line source now is o over =
-    code_line levels now.levels now.levels b line source is o.none o.some (λ e. refl)
-    (λ more. absurd (omega (arith, more, over)))
+pub line_over : (old now : BuilderView) (b : ItemBody) (line : HeldLine) → OwedAdded old now line.start line.owed
+    → line.next ≤ line.start → AddsLines old now b (line ∷ [])
+line_over old now b line o over = record {
+  goes_on =
+      let end : line.start ≡ after_line line.start line.next = omega (arith, over) in
+      subst (GoesOn old now) end o.goes_on;
+  texts = o.texts;
+  items = one_line old now b line (λ source is. code_line old now now b line source is o (λ e. refl)
+      (λ more. absurd (omega (arith, more, over))));
+}
 
 -- a line that is added after what a tab owes
-pub line_added : (levels : List (Forest Shown)) (b : ItemBody) (line : HeldLine) (source : SourceLine)
-    (now new : BuilderView) → IsHeld line source → OwedAdded levels line.start line.owed now → line.start < line.next
-    → AppendsItem now new b line.next → new.levels ≡ with_items levels (source_line b source)
-line_added levels b line source now new is o more adds =
-    code_line levels now.levels new.levels b line source is o.none o.some
-    (λ over. absurd (omega (arith, more, over)))
-    (λ any. ap (λ (v : BuilderView). v.levels) adds
-    ∙ ap (λ n. with_items now.levels (plain_item n line.next b ∷ [])) o.at)
-
--- ---- lines that were taken in order
-
--- the line of this number, among these of the definition, is held, and is taken after those before it
-pub record TakesNext (lines : List HeldLine) (sources : List SourceLine) (number : ℕ) (line : HeldLine) : Type 0 where
-  pub source : SourceLine
-  pub is : IsHeld line source
-  pub taken : take (suc number) sources ≡ take number sources ++ source ∷ []
-
-takes_next : (lines : List HeldLine) (sources : List SourceLine) (number : ℕ) (line : HeldLine)
-    → AreHeld lines sources → slice_get lines number ≡ Some line → TakesNext lines sources number line
-takes_next [] [] number line are e = absurd (grind (arith, e))
-takes_next [] (source ∷ sources) number line are e = absurd are
-takes_next (first ∷ lines) [] number line are e = absurd are
-takes_next (first ∷ lines) (source ∷ sources) zero line are e =
-    record { source = source; is = subst (λ l. IsHeld l source) (same_Some first line e) are.0; taken = refl }
-takes_next (first ∷ lines) (source ∷ sources) (suc number) line are e =
-    let rest = takes_next lines sources number line are.1 e in
-    record { source = rest.source; is = rest.is; taken = ap (λ (ls : List SourceLine). source ∷ ls) rest.taken }
-
--- all of them were taken
-pub takes_all : (lines : List HeldLine) (sources : List SourceLine) → AreHeld lines sources
-    → take (length lines) sources ≡ sources
-takes_all [] [] are = refl
-takes_all [] (source ∷ sources) are = absurd are
-takes_all (line ∷ lines) [] are = absurd are
-takes_all (line ∷ lines) (source ∷ sources) are =
-    ap (λ (ls : List SourceLine). source ∷ ls) (takes_all lines sources are.1)
+pub line_added : (old now new : BuilderView) (b : ItemBody) (line : HeldLine)
+    → OwedAdded old now line.start line.owed → line.start < line.next → AppendsItem now new b line.next
+    → AddsLines old new b (line ∷ [])
+line_added old now new b line o more adds = record {
+  goes_on =
+      let end : line.next ≡ after_line line.start line.next = omega (arith, more) in
+      subst (GoesOn old new) end (rw (adds, o.goes_on) refl);
+  texts = texts_after old now new o.texts (no_text now new (ap (λ (v : BuilderView). v.texts) adds));
+  items = one_line old new b line (λ source is. code_line old now new b line source is o
+      (λ over. absurd (omega (arith, more, over)))
+      (λ any. ap (λ (v : BuilderView). v.levels) adds
+      ∙ ap (λ n. with_items now.levels (plain_item n line.next b ∷ [])) (ap (λ (v : BuilderView). v.at) o.goes_on)));
+}
 
 pub lines_append : (b : ItemBody) (xs ys : List SourceLine)
     → source_lines b (xs ++ ys) ≡ source_lines b xs ++ source_lines b ys
@@ -355,29 +267,53 @@ lines_append b [] ys = refl
 lines_append b (x ∷ xs) ys =
     ap (λ items. source_line b x ++ items) (lines_append b xs ys) ∙ sym (append_assoc (source_line b x) _ _)
 
--- a line of code after others
-pub line_after : (levels : List (Forest Shown)) (b : ItemBody) (sources : List SourceLine) (source : SourceLine)
-    → with_items (with_items levels (source_lines b sources)) (source_line b source)
-    ≡ with_items levels (source_lines b (sources ++ source ∷ []))
-line_after levels b sources source =
-    more_items levels (source_lines b sources) (source_line b source)
-    ∙ ap (with_items levels) (ap (λ items. source_lines b sources ++ items) (sym (append-nil (source_line b source)))
-    ∙ sym (lines_append b sources (source ∷ [])))
+-- lines that are held are those of the definition, the first and the last of them apart
+record HeldParts (xs ys : List HeldLine) (sources : List SourceLine) : Type 0 where
+  first : List SourceLine
+  last : List SourceLine
+  is : sources ≡ first ++ last
+  ones : AreHeld xs first
+  others : AreHeld ys last
 
--- one line of code more
-pub more_lines : (levels before after : List (Forest Shown)) (b : ItemBody) (lines : List HeldLine)
-    (sources : List SourceLine) (number : ℕ) (line : HeldLine)
-    → AreHeld lines sources → slice_get lines number ≡ Some line
-    → before ≡ with_items levels (source_lines b (take number sources))
-    → ((source : SourceLine) → IsHeld line source → after ≡ with_items before (source_line b source))
-    → after ≡ with_items levels (source_lines b (take (number + 1) sources))
-more_lines levels before after b lines sources number line are e was more =
-    let next = takes_next lines sources number line are e in
-    let one : suc number ≡ number + 1 = omega arith in
-    more next.source next.is
-    ∙ (ap (λ ls. with_items ls (source_line b next.source)) was
-    ∙ (line_after levels b (take number sources) next.source
-    ∙ ap (λ ls. with_items levels (source_lines b ls)) (sym next.taken ∙ ap (λ n. take n sources) one)))
+held_parts : (xs ys : List HeldLine) (sources : List SourceLine) → AreHeld (xs ++ ys) sources
+    → HeldParts xs ys sources
+held_parts [] ys sources are = record { first = []; last = sources; is = refl; ones = tt; others = are }
+held_parts (x ∷ xs) ys [] are = absurd are
+held_parts (x ∷ xs) ys (source ∷ sources) are =
+    let p = held_parts xs ys sources are.1 in
+    record {
+      first = source ∷ p.first;
+      last = p.last;
+      is = ap (λ (ls : List SourceLine). source ∷ ls) p.is;
+      ones = (are.0, p.ones);
+      others = p.others;
+    }
+
+after_both : (from : ℕ) (xs ys : List HeldLine) → after_lines from (xs ++ ys) ≡ after_lines (after_lines from xs) ys
+after_both from [] ys = refl
+after_both from (x ∷ xs) ys = after_both (after_line x.start x.next) xs ys
+
+-- no line is added
+pub adds_none : (old : BuilderView) (b : ItemBody) → AddsLines old old b []
+adds_none old b = record { goes_on = refl; texts = no_text old old refl; items = nothing }
+  where
+    nothing : (sources : List SourceLine) → AreHeld [] sources → HasItems old old (source_lines b sources)
+    nothing [] are = sym (no_items old.levels)
+    nothing (source ∷ sources) are = absurd are
+
+-- lines are added after others
+pub adds_more : {old mid new : BuilderView} {b : ItemBody} {xs ys : List HeldLine} → AddsLines old mid b xs
+    → AddsLines mid new b ys → AddsLines old new b (xs ++ ys)
+adds_more {old} {mid} {new} {b} {xs} {ys} one two = record {
+  goes_on = subst (GoesOn old new) (sym (after_both old.at xs ys)) (rw (two.goes_on, one.goes_on) refl);
+  texts = texts_after old mid new one.texts two.texts;
+  items = λ sources are.
+      let p = held_parts xs ys sources are in
+      two.items p.last p.others
+      ∙ (ap (λ ls. with_items ls (source_lines b p.last)) (one.items p.first p.ones)
+      ∙ (more_items old.levels (source_lines b p.first) (source_lines b p.last)
+      ∙ ap (with_items old.levels) (sym (ap (source_lines b) p.is ∙ lines_append b p.first p.last))));
+}
 
 -- ---- what a partly read tab owes
 
@@ -399,10 +335,6 @@ pub few_owed : (columns : ℕ) (left : LineLeft) → left.owed ≤ 3 → (leadin
 few_owed columns left few =
     on_test (λ (s : Space). s.after.owed ≤ 3) (nat_le columns left.owed) _ _ (λ e. omega (arith, few))
     (λ e. few_from (columns - left.owed) left.scanned left.column left.bytes)
-
--- the rest of a line from a place on
-abbrev pub rest_from : Line → Position → HeldLine
-rest_from line position = record { start = position.at; stop = line.stop; next = line.next; owed = position.owed }
 
 pub rest_held : (text : List ℕ) (position : Position) (line : Line) (source : SourceLine)
     → IsRest text position line source → IsHeld (rest_from line position) source

@@ -23,14 +23,13 @@ use Rattle.markdown_block_rules.specs.BlockRules.{label_of, last_end, paragraph_
 use Rattle.markdown_block_rules.specs.BlockRules.{shown_blocks, shown_heading}
 use Rattle.markdown_plain.specs.Fitting.{GoesOn, PutsBlock, closed}
 use Rattle.markdown_plain.specs.Frames.{Frame}
-use Rattle.markdown_plain.specs.LeafTrees.{HasItems, HasMoreTexts, HasTrees, OpensWith}
+use Rattle.markdown_plain.specs.LeafTrees.{ClosesIf, HasItems, HasMoreTexts}
 use Rattle.markdown_plain.specs.OpenBlocks.{outer_of}
 use Rattle.markdown_plain.specs.OpenedFrames.{around_innermost}
-use Rattle.markdown_plain.specs.OpenLeaves.{IsOpenIn, IsPlaced, is_leaf, leaf_block}
-use Rattle.markdown_plain.specs.Paragraphs.{IsPlacedTo}
+use Rattle.markdown_plain.specs.OpenLeaves.{IsLeafIn, IsOpenIn, IsPlaced, is_leaf, leaf_block}
 use Rattle.markdown_plain.specs.Settled.{AreOpen, IsBuilt, levels_shown, placed_end}
 use Rattle.markdown_plain.proofs.AppendedBlocksLemmas.{appended_is_built, end_appended, open_after}
-use Rattle.markdown_plain.proofs.LeafTreesLemmas.{closed_tree, same_block, settled_leaf, trees_last}
+use Rattle.markdown_plain.proofs.LeafTreesLemmas.{closed_tree, no_text, same_block, settled_leaf, trees_last}
 use Rattle.markdown_plain.proofs.OpenBlocksLemmas.{outer_of_these}
 
 -- ---- leaves
@@ -88,24 +87,23 @@ some_level s view frames inside built e = some frames (sym built.levels ∙ e)
 
 -- ---- a leaf that is put there whole
 
-pub whole_leaf : (s : Source) (old new : BuilderView) (frames : List Frame) (inside : Forest Block) (b : Block)
+pub placed_leaf : (s : Source) (old new : BuilderView) (frames : List Frame) (inside : Forest Block) (b : Block)
     → is_leaf b.kind ≡ true → IsBuilt s old frames inside
-    → IsPlacedTo old new (block_end b b.first b.kind) → HasMoreTexts old new
-    → HasTrees old new (shown_leaf s frames b) → IsPlaced s new frames (followed_by inside (leaf_block b))
-whole_leaf s old new frames inside b leaf built placed grown trees = record {
+    → new ≡ record old { at = new.at; run = new.run; levels = new.levels; texts = new.texts } → HasMoreTexts old new
+    → new.levels ≡ with_trees old.levels (shown_leaf s frames b) → new.at ≡ block_end b b.first b.kind
+    → IsPlaced s new frames (followed_by inside (leaf_block b))
+placed_leaf s old new frames inside b leaf built same texts trees end = record {
   built = appended_is_built s frames inside (leaf_block b) old new (record {
-    more = grown.more;
-    text = ap (λ (v : BuilderView). v.text) placed;
-    blocks = ap (λ (v : BuilderView). v.blocks) placed;
-    outside = ap (λ (v : BuilderView). v.leaf) placed;
-    levels = trees (some_level s old frames inside built);
-    texts = grown.are;
-    definitions = ap (λ (v : BuilderView). v.definitions) placed ∙ sym (ap (λ ds. old.definitions ++ ds)
-        (nothing_defined s b leaf) ∙ append-nil old.definitions);
-    footnotes = ap (λ (v : BuilderView). v.footnotes) placed ∙ sym (ap (λ ls. old.footnotes ++ ls)
-        (nothing_named b leaf) ∙ append-nil old.footnotes);
+    more = texts.more;
+    text = rw same refl;
+    blocks = rw same refl;
+    outside = rw same built.outside;
+    levels = trees;
+    texts = texts.are;
+    definitions = rw (same, nothing_defined s b leaf) (sym (append-nil old.definitions));
+    footnotes = rw (same, nothing_named b leaf) (sym (append-nil old.footnotes));
   }) built;
-  at = ap (λ (v : BuilderView). v.at) placed ∙ sym (leaf_end frames inside b leaf);
+  at = end ∙ sym (leaf_end frames inside b leaf);
 }
 
 -- ---- a leaf that is opened, and filled
@@ -121,8 +119,9 @@ pub record OpensLeaf (s : Source) (frames : List Frame) (old new : BuilderView) 
     run = new.run;
     levels = new.levels;
     texts = new.texts;
+    headings = new.headings;
   }
-  pub levels : OpensWith old new items
+  pub levels : new.levels ≡ with_items (old.levels ++ nil ∷ []) items
   pub texts : HasMoreTexts old new
   pub shown : node (shown_item (parts_of new) (record { start = block.start; end = new.at; body = block.body }))
       (chain_of items) nil ≡ shown_leaf s frames b
@@ -136,16 +135,10 @@ opened_leaf s old new frames inside b leaf built opens = record {
   block = opens.block;
   levels = old.levels;
   below = chain_of opens.items;
-  around = record {
-    text = ap (λ (v : BuilderView). v.text) opens.same ∙ built.text;
-    blocks = subst (λ texts. AreOpen texts old.blocks frames) (sym opens.texts.are)
-        (open_after old.texts opens.texts.more old.blocks frames built.blocks);
-    nested = built.nested;
-    outside = refl;
-    levels = built.levels;
-    definitions = ap (λ (v : BuilderView). v.definitions) opens.same ∙ built.definitions;
-    footnotes = ap (λ (v : BuilderView). v.footnotes) opens.same ∙ built.footnotes;
-  };
+  around =
+      let still : AreOpen new.texts old.blocks frames =
+      rw opens.texts.are (open_after old.texts opens.texts.more old.blocks frames built.blocks) in
+      rw opens.same (assumption still);
   blocks = ap (λ (v : BuilderView). v.blocks) opens.same;
   leaf = ap (λ (v : BuilderView). v.leaf) opens.same;
   trees = opens.levels ∙ trees_last old.levels nil (chain_of opens.items);
@@ -214,27 +207,16 @@ filled_leaf s old new frames inside leaf b c is fills is_open =
       block = block;
       levels = is_open.levels;
       below = followed_by is_open.below (chain_of fills.items);
-      around = record {
-        text = ap (λ (v : BuilderView). v.text) same ∙ around.text;
-        blocks = subst (λ texts. AreOpen texts is_open.outer frames) (sym fills.texts.are)
-            (open_after old.texts fills.texts.more is_open.outer frames around.blocks);
-        nested = around.nested;
-        outside = refl;
-        levels = around.levels;
-        definitions = ap (λ (v : BuilderView). v.definitions) same ∙ around.definitions;
-        footnotes = ap (λ (v : BuilderView). v.footnotes) same ∙ around.footnotes;
-      };
+      around =
+          let still : AreOpen new.texts is_open.outer frames =
+          rw fills.texts.are (open_after old.texts fills.texts.more is_open.outer frames around.blocks) in
+          rw same (assumption still);
       blocks = ap (λ (v : BuilderView). v.blocks) same ∙ is_open.blocks;
       leaf = ap (λ (v : BuilderView). v.leaf) same ∙ is_open.leaf;
       trees = fills.added ∙ (ap (λ ls. with_items ls fills.items) is_open.trees
           ∙ trees_last is_open.levels is_open.below (chain_of fills.items));
-      shown = ap (λ (v : BuilderView). node (shown_item (record (parts_of v) { texts = new.texts })
-          (record { start = block.start; end = new.at; body = block.body }))
-          (followed_by is_open.below (chain_of fills.items)) nil) same
-          ∙ (ap (λ t. node (record (shown_item (parts_of old)
-          (record { start = block.start; end = new.at; body = block.body })) { text = t })
-          (followed_by is_open.below (chain_of fills.items)) nil) text
-          ∙ (ap (more_in_first new.at fills.items) is_open.shown ∙ fills.shown));
+      shown = rw (text, ap (λ (v : BuilderView). v.headings) same, ap (λ (v : BuilderView). v.alignments) same)
+          (ap (more_in_first new.at fills.items) is_open.shown ∙ fills.shown);
       end = fills.end ∙ sym (leaf_end frames inside c is);
     }
 
@@ -275,25 +257,28 @@ closed_leaf s old new frames inside leaf b is closes put is_open =
     let unlisted : is_tight_list a.item.body ≡ false =
     ap first_is_tight (is_open.shown ∙ shown_alone s (around_innermost in_no_item frames) b b.kind refl)
     ∙ leaf_unlisted s (around_innermost in_no_item frames) b b.kind is in
-    record {
-      built = appended_is_built s frames inside (leaf_block b) around new (record {
-        more = [];
-        text = ap (λ (v : BuilderView). v.text) closes;
-        blocks = ap (λ (v : BuilderView). v.blocks) closes
-            ∙ outer_of_these old.blocks is_open.outer is_open.block is_open.blocks;
-        outside = ap (λ (v : BuilderView). v.leaf) closes;
-        levels = put.levels
-            ∙ (ap (λ block. with_block old.levels (shown_as block))
-            (same_block old.blocks (outer_of old.blocks) is_open.outer put.block is_open.block put.was is_open.blocks)
-            ∙ (ap (λ ls. with_block ls a) is_open.trees
-            ∙ (closed_tree is_open.levels is_open.below a (some_level s around frames inside is_open.around)
-            ∙ ap (with_trees is_open.levels) (ap (λ below. node a below nil) (settled_leaf a is_open.below unlisted)
-            ∙ is_open.shown))));
-        texts = ap (λ (v : BuilderView). v.texts) closes ∙ sym (append-nil old.texts);
-        definitions = ap (λ (v : BuilderView). v.definitions) closes ∙ sym (ap (λ ds. old.definitions ++ ds)
-            (nothing_defined s b is) ∙ append-nil old.definitions);
-        footnotes = ap (λ (v : BuilderView). v.footnotes) closes ∙ sym (ap (λ ls. old.footnotes ++ ls)
-            (nothing_named b is) ∙ append-nil old.footnotes);
-      }) is_open.around;
-      at = ap (λ (v : BuilderView). v.at) closes ∙ is_open.end;
-    }
+    let outer = outer_of_these old.blocks is_open.outer is_open.block is_open.blocks in
+    placed_leaf s around new frames inside b is is_open.around (rw (closes, outer) refl)
+    (no_text around new (ap (λ (v : BuilderView). v.texts) closes))
+    (put.levels
+    ∙ (ap (λ block. with_block old.levels (shown_as block))
+    (same_block old.blocks (outer_of old.blocks) is_open.outer put.block is_open.block put.was is_open.blocks)
+    ∙ (ap (λ ls. with_block ls a) is_open.trees
+    ∙ (closed_tree is_open.levels is_open.below a (some_level s around frames inside is_open.around)
+    ∙ ap (with_trees is_open.levels) (ap (λ below. node a below nil) (settled_leaf a is_open.below unlisted)
+    ∙ is_open.shown)))))
+    (ap (λ (v : BuilderView). v.at) closes ∙ (is_open.end ∙ leaf_end frames inside b is))
+
+-- it is closed where it has ended, and else still open
+pub closed_if : (s : Source) (old new : BuilderView) (frames : List Frame) (inside : Forest Block) (b : Block)
+    (ended : Bool) → is_leaf b.kind ≡ true → ClosesIf ended old new → IsOpenIn s old frames inside true b
+    → IsLeafIn s new frames inside b ended
+closed_if s old new frames inside b true leaf closes is_open =
+    closed_leaf s old new frames inside true b leaf closes.is closes.puts is_open
+closed_if s old new frames inside b false leaf same is_open =
+    subst (λ v. IsOpenIn s v frames inside true b) (sym same) is_open
+
+-- the text stays in either case
+pub closed_text : (old new : BuilderView) (ended : Bool) → ClosesIf ended old new → new.text ≡ old.text
+closed_text old new true closes = ap (λ (v : BuilderView). v.text) closes.is
+closed_text old new false same = ap (λ (v : BuilderView). v.text) same

@@ -1,22 +1,16 @@
 -- laws on the open blocks, and on what containers take of a line
 pub mod OpenBlocksLemmas
 pub mod LeafTreesLemmas
-pub mod TableRowsLemmas
 pub mod ShownRowsLemmas
 pub mod ContainersLemmas
 pub mod StretchesLemmas
 -- on lines that are taken, and on when lists become loose
 pub mod ParagraphLinesLemmas
 pub mod ParagraphTreesLemmas
-pub mod ParagraphBracesLemmas
-pub mod PlacedParagraphsLemmas
-pub mod EndedParagraphsLemmas
 pub mod ParagraphsLemmas
 pub mod DividedLemmas
-pub mod DefinitionLinesLemmas
 pub mod TableHeadsLemmas
 pub mod DelimiterRowsLemmas
-pub mod TableBeginningsLemmas
 pub mod ListLoosenessLemmas
 -- on what a line makes of blocks, some of which are open
 pub mod FramesLemmas
@@ -38,28 +32,21 @@ pub mod ItemsInListsLemmas
 pub mod FramesInsideLemmas
 pub mod LooseFramesLemmas
 pub mod OpenListsLemmas
-pub mod ClosedListsLemmas
+pub mod ClosingDownLemmas
 pub mod BlanksKnownLemmas
 -- on leaves in open containers
 pub mod LeavesInPlaceLemmas
 pub mod OpenTablesLemmas
 pub mod RememberedTextLemmas
-pub mod TriedLemmas
 pub mod LinedLeavesLemmas
-pub mod LeafKindsLemmas
 pub mod ParagraphsInPlaceLemmas
-pub mod EndedLeavesLemmas
 pub mod AddedLinesLemmas
-pub mod HtmlLeavesLemmas
-pub mod IndentedLeavesLemmas
 -- on what the pass stands for between two lines
 pub mod StandingLemmas
 pub mod LeafLinesLemmas
 pub mod BlankLinesLemmas
 pub mod BlankStandingLemmas
 pub mod GrownLeavesLemmas
-pub mod GrownTablesLemmas
-pub mod EndedTablesLemmas
 pub mod ReadRowsLemmas
 pub mod AddedRowsLemmas
 pub mod EndedLinesLemmas
@@ -74,20 +61,15 @@ pub mod TextLinesLemmas
 -- on blocks that begin with the rest of a line
 pub mod LineBeginningsLemmas
 pub mod BegunRestsLemmas
-pub mod PassedMarkersLemmas
 pub mod BegunBlocksLemmas
 pub mod BegunLeavesLemmas
 pub mod BegunTextsLemmas
-pub mod BegunMetadataLemmas
 pub mod BegunContainersLemmas
 pub mod BegunItemsLemmas
 -- on what is found there, and on what is made of it turn by turn
 pub mod FoundBlocksLemmas
 pub mod FoundPlacesLemmas
-pub mod InnerBeginningsLemmas
-pub mod FirstTurnsLemmas
 pub mod RoomForBlocksLemmas
-pub mod UnderlineLinesLemmas
 pub mod UnderlinesLemmas
 pub mod TextHereLemmas
 pub mod HasRoomLemmas
@@ -104,9 +86,7 @@ pub mod ReadyContainersLemmas
 pub mod ReadyLinesLemmas
 -- on a table that begins at its delimiter row
 pub mod TableFrontsLemmas
-pub mod BegunTablesLemmas
 pub mod UntabledLinesLemmas
-pub mod UntabledTextsLemmas
 pub mod PlacedTablesLemmas
 -- on a whole text
 pub mod WholeTextsLemmas

@@ -1,323 +1,533 @@
--- Leaves in the innermost open container that are put there whole, or that consist of lines.
-use Rattle.std.proofs.Common.{◌≡◌, ℕ, Bool, true, false, List, [], ◌∷◌, ◌++◌, Option, None, length, slice_range, refl}
-use Rattle.std.proofs.Common.{sym, ap, ◌∙◌, subst, not, append-nil, arith}
-use Rattle.std.specs.Prelude.{◌||◌, ◌+◌, ◌-◌, ◌≤◌, ◌==◌, nat_le, nat_lt, IfOk, Result, Ok, Err}
+-- Leaves in the innermost open container that consist of lines, and grow line by line; headings and thematic breaks.
+use Rattle.std.proofs.Common.{◌≡◌, ℕ, Bool, true, false, List, [], ◌∷◌, ◌++◌, Option, Some, None, refl}
+use Rattle.std.proofs.Common.{sym, ap, ◌∙◌, subst, not, append-nil, append_assoc, arith, true≢false, ◌<◌}
+use Rattle.std.specs.Prelude.{◌||◌, ◌&&◌, ◌≤◌, ◌==◌, nat_lt, if◌then◌else◌}
+use Rattle.std.proofs.lemmas.Option.{same_Some}
+use Rattle.std.proofs.lemmas.Bool.Decides.{nat_tests}
 use Rattle.markdown_base.specs.Forest.{Forest, nil, node}
 use Rattle.markdown_base.specs.declared.item.ItemBody.{ItemBody}
 use Rattle.markdown_base.specs.declared.item.ItemBody.TheVariants as body
-use Rattle.markdown_base.specs.declared.syntax.Syntax.{Syntax}
 use Rattle.markdown_base.specs.declared.tag.MetadataBlockKind.{MetadataBlockKind}
-use Rattle.markdown_builder.specs.BuilderView.{AppendsItem, BuilderView, parts_of, with_items}
-use Rattle.markdown_builder.specs.Shown.{chain_of, shown_item, Parts, plain_item}
+use Rattle.markdown_builder.specs.BuilderView.{AppendsItem, BuilderView, Opens, parts_of, with_items}
+use Rattle.markdown_builder.specs.declared.open_block.OpenBlock.{OpenBlock}
+use Rattle.markdown_builder.specs.Shown.{Shown, chain_of, shown_item}
 use Rattle.markdown_builder.specs.TreeLevels.{followed_by, with_trees}
 use Rattle.markdown_builder.proofs.LaidLemmas.{followed_by-nil}
-use Rattle.markdown_scan.specs.LineStart.{LineLeft, Space, column_after, space_from, space_width}
+use Rattle.markdown_scan.specs.LineStart.{LineLeft, leading_space}
 use Rattle.markdown_items.specs.ContentItems.{content_items}
 use Rattle.markdown_items.specs.LineItems.{item_syntax}
 use Rattle.markdown_items.proofs.RestOfLineLemmas.{no_items}
 use Rattle.markdown_base.specs.Source.{Source}
-use Rattle.markdown_lines.specs.SourceLines.{SourceLine, cut, stop_of}
+use Rattle.markdown_lines.specs.SourceLines.{SourceLine, cut, is_blank_rest, stop_of}
 use Rattle.markdown_lines.specs.declared.atx_heading.AtxHeading.{AtxHeading}
+use Rattle.markdown_lines.specs.declared.braces.Braces.{Braces}
+use Rattle.markdown_lines.specs.declared.fence.Fence.{Fence}
+use Rattle.markdown_lines.specs.declared.fence.OpeningFence.{OpeningFence}
+use Rattle.markdown_lines.specs.declared.held_line.HeldLine.{HeldLine}
+use Rattle.markdown_lines.specs.declared.html_kind.HtmlKind.{HtmlKind}
 use Rattle.markdown_lines.specs.declared.line.Line.{Line}
 use Rattle.markdown_lines.specs.declared.position.Position.{Position}
-use Rattle.markdown_lines.specs.declared.held_line.HeldLine.{HeldLine}
+use Rattle.markdown_lines.specs.CodeFences.{closes_fence}
+use Rattle.markdown_lines.specs.HeadingAttributes.{heading_of_words, words_in}
+use Rattle.markdown_lines.specs.HtmlKinds.{ends_at_blank, ends_in}
+use Rattle.markdown_lines.specs.Lines.{IsNextContent}
 use Rattle.markdown_lines.specs.MetadataBlocks.{closes_metadata}
 use Rattle.markdown_block_rules.specs.BlockGrowth as was
-use Rattle.markdown_block_rules.specs.BlockGrowth.{Block, Kind, closes}
-use Rattle.markdown_block_rules.specs.BlockRules.{block_end, in_no_item, shown_heading, shown_over, Around}
-use Rattle.markdown_block_rules.specs.LineContents.{source_lines, source_line}
-use Rattle.markdown_plain.specs.Fitting.{GoesOn, PutsBlock, closed, stepped}
+use Rattle.markdown_block_rules.specs.BlockGrowth.{Block, Kind, closes, ends_html, leaf_with}
+use Rattle.markdown_block_rules.specs.BlockRules.{before_code, block_end, code_lines, in_no_item, info_of, lines_end}
+use Rattle.markdown_block_rules.specs.BlockRules.{shown_heading, shown_over}
+use Rattle.markdown_block_rules.specs.LineContents.{source_lines}
+use Rattle.markdown_plain.specs.declared.pass.LeafKind.TheVariants as leaf
+use Rattle.markdown_plain.specs.declared.pass.Pass.{Pass}
+use Rattle.markdown_plain.specs.CodeLines.{after_line, ends_html_at, is_closed_at, whole_of}
+use Rattle.markdown_plain.specs.Fitting.{BeginsAtContent, GoesOn, OpensHeadingOf, stepped}
 use Rattle.markdown_plain.specs.Frames.{Frame}
-use Rattle.markdown_plain.specs.LeafTrees.{HasItems, HasMoreTexts, HasTrees, OpensWith}
+use Rattle.markdown_plain.specs.HeldSources.{AreHeld, IsHeld}
+use Rattle.markdown_plain.specs.LeafTrees.{AddsLines, ClosesIf, HasItems, HasMoreTexts}
+use Rattle.markdown_plain.specs.OpenBlocks.{outer_of}
 use Rattle.markdown_plain.specs.OpenedFrames.{around_innermost}
-use Rattle.markdown_plain.specs.OpenLeaves.{IsOpenIn, IsPlaced, is_leaf, leaf_block, IsLineRest}
-use Rattle.markdown_plain.specs.Paragraphs.{IsPlacedTo}
+use Rattle.markdown_plain.specs.OpenLeaves.{IsLeafIn, IsLineRest, IsOpenIn, IsPlaced, has_ended, is_leaf, leaf_block}
 use Rattle.markdown_plain.specs.Settled.{IsBuilt}
-use Rattle.markdown_plain.specs.CodeLines.{after_line, whole_of}
-use Rattle.markdown_plain.specs.HeldSources.{IsHeld}
-use Rattle.markdown_plain.proofs.LeafTreesLemmas.{lines_append, no_text, on_test}
-use Rattle.markdown_plain.proofs.LeavesInPlaceLemmas.{closed_leaf, shown_of_kind, filled_leaf, has_its_text, is_some}
+use Rattle.markdown_plain.specs.Standing.{HoldsBlanks, IsLeafKind, IsSource}
+use Rattle.markdown_plain.proofs.BlankLinesLemmas.{blank_alike}
+use Rattle.markdown_plain.proofs.LeafTreesLemmas.{attributed_shown, lines_append, no_text, same_block, texts_after}
+use Rattle.markdown_plain.proofs.LeavesInPlaceLemmas.{closed_if, filled_leaf, has_its_text, is_some, leaf_end}
 use Rattle.markdown_plain.proofs.LeavesInPlaceLemmas.{more_in_first, names_text, opened_leaf, shown_alone, shown_leaf}
-use Rattle.markdown_plain.proofs.LeavesInPlaceLemmas.{whole_leaf}
+use Rattle.markdown_plain.proofs.LeavesInPlaceLemmas.{placed_leaf, shown_of_kind}
+use Rattle.markdown_plain.proofs.OpenBlocksLemmas.{outer_of_these}
+use Rattle.markdown_plain.proofs.ReachedFramesLemmas.{space_alike}
 
--- this is a leaf, by its kind
-pub kind_is_leaf : (b : Block) (kind : Kind) → b.kind ≡ kind → is_leaf kind ≡ true → is_leaf b.kind ≡ true
-kind_is_leaf b kind is leaf = ap is_leaf is ∙ leaf
-
--- and it ends with its last line
-pub ends_with_line : (b : Block) (kind : Kind) (to : ℕ) → b.kind ≡ kind → block_end b b.first kind ≡ b.last
-    → b.last ≡ to
-    → to ≡ block_end b b.first b.kind
-ends_with_line b kind to is end last = sym last ∙ (sym end ∙ sym (ap (block_end b b.first) is))
-
-pub break_placed : (s : Source) (old new : BuilderView) (frames : List Frame) (inside : Forest Block) (b : Block)
-    (to : ℕ) → IsBuilt s old frames inside → AppendsItem old new body.Rule to → b.kind ≡ was.break_leaf
-    → b.start ≡ old.at → b.last ≡ to → IsPlaced s new frames (followed_by inside (leaf_block b))
-break_placed s old new frames inside b to built appends kind start last =
-    let end = ends_with_line b was.break_leaf to kind refl last in
-    let rule = λ (at : ℕ) (end : ℕ). with_trees old.levels (shown_over at end body.Rule None nil) in
-    let placed : IsPlacedTo old new to =
-    appends ∙ (ap (λ flag. record old { at = to; leaf = flag; run = None; levels = rule old.at to }) built.outside
-    ∙ sym (ap (λ (v : BuilderView). record old {
-      at = to;
-      leaf = false;
-      run = None;
-      levels = v.levels;
-      texts = v.texts;
-      headings = v.headings;
-    }) appends)) in
-    whole_leaf s old new frames inside b (kind_is_leaf b was.break_leaf kind refl) built
-    (subst (IsPlacedTo old new) end placed)
-    (no_text old new (ap (λ (v : BuilderView). v.texts) appends))
-    (λ some. ap (λ (v : BuilderView). v.levels) appends ∙ (ap (λ n. rule n to) (sym start)
-    ∙ (ap (rule b.start) (sym last)
-    ∙ ap (with_trees old.levels)
-    (sym (shown_alone s (around_innermost in_no_item frames) b was.break_leaf kind)))))
-
--- ---- headings
-
-pub heading_placed : (s : Source) (old new : BuilderView) (syntax : Syntax) (frames : List Frame)
-    (inside : Forest Block) (b : Block) (heading : AtxHeading) (to : ℕ)
-    → IsBuilt s old frames inside → s.syntax ≡ syntax → b.kind ≡ was.heading_leaf heading
-    → b.start ≡ old.at → b.last ≡ to → IsPlacedTo old new to → HasMoreTexts old new
-    → HasTrees old new (shown_heading (record { text = old.text; syntax = syntax }) old.at to heading.level
-    heading.braces (chain_of (content_items old.text (item_syntax syntax) heading.from heading.to)))
-    → IsPlaced s new frames (followed_by inside (leaf_block b))
-heading_placed s old new syntax frames inside b heading to built same kind start last placed texts trees =
-    let shown = λ (t : List ℕ) (o : Syntax) (at : ℕ) (end : ℕ). with_trees old.levels
-    (shown_heading (record { text = t; syntax = o }) at end heading.level heading.braces
-    (chain_of (content_items t (item_syntax o) heading.from heading.to))) in
-    whole_leaf s old new frames inside b (kind_is_leaf b (was.heading_leaf heading) kind refl) built
-    (subst (IsPlacedTo old new) (ends_with_line b (was.heading_leaf heading) to kind refl last) placed) texts
-    (λ some. trees some ∙ (ap (λ t. shown t syntax old.at to) built.text ∙ (ap (λ o. shown s.text o old.at to)
-    (sym same)
-    ∙ (ap (λ n. shown s.text s.syntax n to) (sym start) ∙ (ap (shown s.text s.syntax b.start) (sym last)
-    ∙ ap (with_trees old.levels) (sym (shown_alone s (around_innermost in_no_item frames) b
-    (was.heading_leaf heading) kind
-    ∙ followed_by-nil _)))))))
-
--- ---- lines that are added
+-- ---- what is shown of lines
 
 chain_of_both : {A : Type 0} (xs ys : List A) → followed_by (chain_of xs) (chain_of ys) ≡ chain_of (xs ++ ys)
 chain_of_both [] ys = refl
 chain_of_both (x ∷ xs) ys = ap (node x nil) (chain_of_both xs ys)
 
--- lines were added to the open leaf, which had lines before
-pub record AddsLines (s : Source) (frames : List Frame) (old new : BuilderView) (b c : Block) : Type 0 where
-  pub body : ItemBody
-  pub text : Option (List ℕ)
-  pub line : ItemBody
-  pub before : List SourceLine
-  pub lines : List SourceLine
-  pub from : ℕ
-  pub start : b.start ≡ c.start
-  pub was : shown_leaf s frames b ≡ shown_over b.start from body text (chain_of (source_lines line before))
-  pub shown : shown_leaf s frames c ≡ shown_over c.start new.at body text (chain_of (source_lines line
-      (before ++ lines)))
+-- Closed here, a leaf is shown with this body, consists of these lines, and ends at a byte offset.
+pub record IsLined (s : Source) (frames : List Frame) (b : Block) (body : ItemBody) (text : Option (List ℕ))
+    (line : ItemBody) (lines : List SourceLine) (to : ℕ) : Type 0 where
+  pub leaf : is_leaf b.kind ≡ true
   pub named : (not (names_text body) || is_some text) ≡ true
+  pub end : block_end b b.first b.kind ≡ to
+  pub shown : shown_leaf s frames b ≡ shown_over b.start to body text (chain_of (source_lines line lines))
+
+-- this is so by the kind
+lined_by : (s : Source) (frames : List Frame) (b : Block) (kind : Kind) (body : ItemBody) (text : Option (List ℕ))
+    (line : ItemBody) (lines : List SourceLine) (to : ℕ) → b.kind ≡ kind → is_leaf kind ≡ true
+    → (not (names_text body) || is_some text) ≡ true → block_end b b.first kind ≡ to
+    → shown_of_kind s (around_innermost in_no_item frames) b kind
+    ≡ shown_over b.start to body text (chain_of (source_lines line lines))
+    → IsLined s frames b body text line lines to
+lined_by s frames b kind body text line lines to is leaf named end shown = record {
+  leaf = ap is_leaf is ∙ leaf;
+  named = named;
+  end = ap (block_end b b.first) is ∙ end;
+  shown = shown_alone s (around_innermost in_no_item frames) b kind is ∙ shown;
+}
+
+-- ---- items that are put into a leaf
+
+-- items were put into the open leaf, and the builder may have moved
+pub record PutsItems (old new : BuilderView) (items : List Shown) : Type 0 where
   pub goes_on : GoesOn old new new.at
   pub texts : HasMoreTexts old new
-  pub added : HasItems old new (source_lines line lines)
-  pub end : new.at ≡ block_end c c.first c.kind
+  pub added : HasItems old new items
 
-pub lines_added : (s : Source) (old new : BuilderView) (frames : List Frame) (inside : Forest Block) (in_leaf : Bool)
-    (b c : Block) → is_leaf c.kind ≡ true → AddsLines s frames old new b c → IsOpenIn s old frames inside in_leaf b
-    → IsOpenIn s new frames inside in_leaf c
-lines_added s old new frames inside in_leaf b c leaf adds is_open =
-    filled_leaf s old new frames inside in_leaf b c leaf (record {
-      items = source_lines adds.line adds.lines;
-      goes_on = adds.goes_on;
-      texts = adds.texts;
-      added = adds.added;
-      named = ap has_its_text adds.was ∙ adds.named;
-      shown = ap (more_in_first new.at (source_lines adds.line adds.lines)) adds.was
-          ∙ (ap (λ n. shown_over n new.at adds.body adds.text (followed_by (chain_of
-          (source_lines adds.line adds.before))
-          (chain_of (source_lines adds.line adds.lines)))) adds.start
-          ∙ (ap (shown_over c.start new.at adds.body adds.text)
-          (chain_of_both (source_lines adds.line adds.before) (source_lines adds.line adds.lines)
-          ∙ ap chain_of (sym (lines_append adds.line adds.before adds.lines))) ∙ sym adds.shown));
-      end = adds.end;
-    }) is_open
+-- those of lines
+pub puts_lines : {old new : BuilderView} {line : ItemBody} {lines : List HeldLine} (sources : List SourceLine)
+    → AddsLines old new line lines → AreHeld lines sources → PutsItems old new (source_lines line sources)
+puts_lines {old} {new} {line} {lines} sources adds are = record {
+  goes_on = subst (GoesOn old new) (sym (ap (λ (v : BuilderView). v.at) adds.goes_on)) adds.goes_on;
+  texts = adds.texts;
+  added = adds.items sources are;
+}
 
--- ---- leaves that consist of lines, and end with the last of them
+-- none, by a step
+pub puts_none : (old new : BuilderView) (to : ℕ) → new ≡ stepped old to → PutsItems old new []
+puts_none old new to is = record {
+  goes_on = rw is refl;
+  texts = no_text old new (ap (λ (v : BuilderView). v.texts) is);
+  added = ap (λ (v : BuilderView). v.levels) is ∙ sym (no_items old.levels);
+}
 
--- a leaf of a kind is shown with this body, and consists of these lines
-pub record IsLined (s : Source) (kind : Kind) (body : ItemBody) (text : Option (List ℕ)) (line : ItemBody)
-    (lines : List SourceLine) : Type 0 where
-  pub leaf : is_leaf kind ≡ true
-  pub named : (not (names_text body) || is_some text) ≡ true
-  pub end : (b : Block) → block_end b b.first kind ≡ b.last
-  pub shown : (around : Around) (b : Block)
-      → shown_of_kind s around b kind ≡ shown_over b.start b.last body text (chain_of (source_lines line lines))
+-- ---- a leaf that is opened
+
+-- a leaf with a body was opened after these blocks, and starts at a byte offset
+abbrev pub opened_as : BuilderView → ℕ → ItemBody → BuilderView → BuilderView
+opened_as old start body now = record old {
+  at = now.at;
+  blocks = old.blocks ++ record { start = start; body = body } ∷ [];
+  leaf = true;
+  run = now.run;
+  levels = old.levels ++ nil ∷ [];
+  texts = now.texts;
+}
+
+pub lined_opened : (s : Source) (old now new : BuilderView) (frames : List Frame) (inside : Forest Block) (b : Block)
+    (opened : ItemBody) {body : ItemBody} {text : Option (List ℕ)} {line : ItemBody} {lines : List SourceLine}
+    → IsBuilt s old frames inside → IsLined s frames b body text line lines new.at
+    → now ≡ opened_as old b.start opened now → HasMoreTexts old now → PutsItems now new (source_lines line lines)
+    → ((below : Forest Shown)
+    → node (shown_item (parts_of new) (record { start = b.start; end = new.at; body = opened })) below nil
+    ≡ shown_over b.start new.at body text below)
+    → IsOpenIn s new frames inside true b
+lined_opened s old now new frames inside b opened {body} {text} {line} {lines} built is opens texts puts shown =
+    opened_leaf s old new frames inside b is.leaf built (record {
+      block = record { start = b.start; body = opened };
+      items = source_lines line lines;
+      same = rw (puts.goes_on, opens) refl;
+      levels = puts.added ∙ ap (λ (v : BuilderView). with_items v.levels (source_lines line lines)) opens;
+      texts = texts_after old now new texts puts.texts;
+      shown = shown (chain_of (source_lines line lines)) ∙ sym is.shown;
+      end = sym is.end;
+    })
+
+-- ---- a leaf that grows
 
 abbrev pub grown_to : Block → ℕ → Kind → Block
 grown_to b to kind = record b { last = to; kind = kind }
 
-more_lines_added : (s : Source) (old new : BuilderView) (frames : List Frame) (inside : Forest Block) (b : Block)
-    (kind now : Kind) (body : ItemBody) (text : Option (List ℕ)) (line : ItemBody) (before lines : List SourceLine)
-    → IsLined s kind body text line before → IsLined s now body text line (before ++ lines) → b.kind ≡ kind
-    → GoesOn old new new.at → HasMoreTexts old new → HasItems old new (source_lines line lines)
-    → IsOpenIn s old frames inside true b → IsOpenIn s new frames inside true (grown_to b new.at now)
-more_lines_added s old new frames inside b kind now body text line before lines is grown same goes_on texts added
-    is_open =
-    let around = around_innermost in_no_item frames in
-    lines_added s old new frames inside true b (grown_to b new.at now) grown.leaf (record {
+-- a leaf that consists of lines is another kind of leaf with these lines after them, and has ended or not
+pub record Grows (s : Source) (frames : List Frame) (b : Block) (now : Kind) (next : ℕ) (line : ItemBody)
+    (more : List SourceLine) (ended : Bool) : Type 0 where
+  pub body : ItemBody
+  pub text : Option (List ℕ)
+  pub before : List SourceLine
+  pub from : ℕ
+  pub was : IsLined s frames b body text line before from
+  pub is : IsLined s frames (grown_to b next now) body text line (before ++ more) next
+  pub ends : has_ended now ≡ ended
+
+-- the lines were added to it where it is open, and it was closed if it has ended
+pub grown_leaf : {s : Source} {frames : List Frame} {b : Block} {now : Kind} {next : ℕ} {line : ItemBody}
+    {more : List SourceLine} {ended : Bool} (old mid new : BuilderView) (inside : Forest Block)
+    → Grows s frames b now next line more ended → IsOpenIn s old frames inside true b
+    → PutsItems old mid (source_lines line more) → mid.at ≡ next → ClosesIf ended mid new
+    → IsLeafIn s new frames inside (grown_to b next now) (has_ended now)
+grown_leaf {s} {frames} {b} {now} {next} {line} {more} {ended} old mid new inside g is_open puts at closes =
+    rw g.ends (closed_if s mid new frames inside (grown_to b next now) ended g.is.leaf closes
+    (filled_leaf s old mid frames inside true b (grown_to b next now) g.is.leaf (record {
+      items = source_lines line more;
+      goes_on = puts.goes_on;
+      texts = puts.texts;
+      added = puts.added;
+      named = ap has_its_text g.was.shown ∙ g.was.named;
+      shown = ap (more_in_first mid.at (source_lines line more)) g.was.shown
+          ∙ (ap (shown_over b.start mid.at g.body g.text)
+          (chain_of_both (source_lines line g.before) (source_lines line more)
+          ∙ ap chain_of (sym (lines_append line g.before more)))
+          ∙ (ap (λ n. shown_over b.start n g.body g.text (chain_of (source_lines line (g.before ++ more)))) at
+          ∙ sym g.is.shown));
+      end = at ∙ sym g.is.end;
+    }) is_open))
+
+-- a leaf that ends with a line that is not one of its own, or has one line more
+grows_or_ends : (s : Source) (frames : List Frame) (b : Block) (source one : SourceLine) (now over more : Kind)
+    (test ended : Bool) {body : ItemBody} {text : Option (List ℕ)} {line : ItemBody} {before : List SourceLine}
+    {from : ℕ} → (if test then Some over else Some more) ≡ Some now → test ≡ ended
+    → has_ended over ≡ true → has_ended more ≡ false → IsLined s frames b body text line before from
+    → IsLined s frames (grown_to b source.next over) body text line before source.next
+    → IsLined s frames (grown_to b source.next more) body text line (before ++ one ∷ []) source.next
+    → Grows s frames b now source.next line (if ended then [] else one ∷ []) ended
+grows_or_ends s frames b source one now over more test true {body} {text} {line} {before} goes is ends goes_on was
+    closed open_now = rw (← same_Some over now (rw is at goes)) (record {
       body = body;
       text = text;
-      line = line;
       before = before;
-      lines = lines;
-      from = b.last;
-      start = refl;
-      was = shown_alone s around b kind same ∙ is.shown around b;
-      shown = shown_alone s around (grown_to b new.at now) now refl ∙ grown.shown around (grown_to b new.at now);
-      named = is.named;
-      goes_on = goes_on;
-      texts = texts;
-      added = added;
-      end = sym (grown.end (grown_to b new.at now));
-    }) is_open
-
-pub line_added_to : (s : Source) (old new : BuilderView) (frames : List Frame) (inside : Forest Block) (b : Block)
-    (kind now : Kind) (to : ℕ) (body : ItemBody) (text : Option (List ℕ)) (line : ItemBody) (before : List SourceLine)
-    (source : SourceLine)
-    → IsLined s kind body text line before → IsLined s now body text line (before ++ source ∷ []) → b.kind ≡ kind
-    → GoesOn old new to → HasMoreTexts old new → HasItems old new (source_line line source)
-    → IsOpenIn s old frames inside true b → IsOpenIn s new frames inside true (grown_to b to now)
-line_added_to s old new frames inside b kind now to body text line before source is grown same goes_on texts added
-    is_open =
-    let at = ap (λ (v : BuilderView). v.at) goes_on in
-    subst (λ n. IsOpenIn s new frames inside true (grown_to b n now)) at
-    (more_lines_added s old new frames inside b kind now body text line before (source ∷ []) is grown same
-    (subst (GoesOn old new) (sym at) goes_on) texts
-    (added ∙ ap (with_items old.levels) (sym (append-nil (source_line line source)))) is_open)
-
--- the open leaf is closed with a line that is not one of its own
-pub closed_by_line : (s : Source) (old new : BuilderView) (frames : List Frame) (inside : Forest Block) (b : Block)
-    (kind now : Kind) (to : ℕ) (body : ItemBody) (text : Option (List ℕ)) (line : ItemBody) (lines : List SourceLine)
-    → IsLined s kind body text line lines → IsLined s now body text line lines → b.kind ≡ kind
-    → new ≡ record (closed old new.levels) { at = to } → PutsBlock (stepped old to) new
-    → IsOpenIn s old frames inside true b
-    → IsPlaced s new frames (followed_by inside (leaf_block (grown_to b to now)))
-closed_by_line s old new frames inside b kind now to body text line lines is ended same closes put is_open =
-    closed_leaf s (stepped old to) new frames inside true (grown_to b to now) ended.leaf closes put
-    (more_lines_added s old (stepped old to) frames inside b kind now body text line lines [] is
-    (subst (IsLined s now body text line) (sym (append-nil lines)) ended) same refl
-    (no_text old (stepped old to) refl) (sym (no_items old.levels)) is_open)
+      from = _;
+      was = was;
+      is = rw (append-nil before) closed;
+      ends = ends;
+    })
+grows_or_ends s frames b source one now over more test false {body} {text} {line} {before} goes is ends goes_on was
+    closed open_now = rw (← same_Some more now (rw is at goes)) (record {
+      body = body;
+      text = text;
+      before = before;
+      from = _;
+      was = was;
+      is = open_now;
+      ends = goes_on;
+    })
 
 -- ---- where lines end
 
-space_within : (n scanned column : ℕ) (bytes : List ℕ)
-    → (space_from n scanned column bytes).after.scanned ≤ scanned + length bytes
-space_within n scanned column [] = omega arith
-space_within n scanned column (b ∷ bytes) =
-    on_test (λ (sp : Space). sp.after.scanned ≤ scanned + length (b ∷ bytes)) ((n == 0) || (space_width column b == 0))
-    _ _ (λ e. omega arith)
-    (λ some. on_test (λ (sp : Space). sp.after.scanned ≤ scanned + length (b ∷ bytes))
-    (nat_lt n (space_width column b)) _ _ (λ e. omega arith)
-    (λ e. let rest = space_within (n - space_width column b) (scanned + 1) (column_after column b) bytes in
-    omega (arith, rest)))
-
 -- what is left of a line after some space begins before its content ends
 pub cut_within : (columns : ℕ) (l : SourceLine) → (cut columns l).left.scanned ≤ stop_of l
-cut_within columns l =
-    on_test (λ (sp : Space). sp.after.scanned ≤ stop_of l) (nat_le columns l.left.owed) _ _ (λ e. omega arith)
-    (λ e. space_within (columns - l.left.owed) l.left.scanned l.left.column l.left.bytes)
+cut_within columns l = omega (arith, (space_alike columns l.left).end)
 
--- the place after a line that begins before its end
-pub after_held : (line : HeldLine) (source : SourceLine) → IsHeld line source → source.left.scanned ≤ source.next
-    → after_line line.start line.next ≡ source.next
-after_held line source is less = let start = is.start in let next = is.next in omega (arith, start, next, less)
-
--- a line's content ends before the next line begins
-pub rest_ends : (text : List ℕ) (position : Position) (line : Line) (source : SourceLine)
+-- a line's content begins before the next line
+pub rest_ordered : {text : List ℕ} {position : Position} {line : Line} {source : SourceLine}
     → IsLineRest text position line source → stop_of source ≤ source.next
-rest_ends text position line source is =
-    let stop = is.stop in
-    let ends = is.ends in
-    let next = is.rest.next in
-    omega (arith, stop, ends, next)
+rest_ordered is = omega (arith, is.stop, is.ends, is.rest.next)
 
 pub stop_after : (l : SourceLine) → l.left.scanned ≤ stop_of l
 stop_after l = omega arith
 
+-- the builder is where a line ends that was added last
+pub ends_with : {old new : BuilderView} {body : ItemBody} {line : HeldLine} (source : SourceLine)
+    → AddsLines old new body (line ∷ []) → IsHeld line source → source.left.scanned ≤ source.next
+    → new.at ≡ source.next
+ends_with {line = line} source adds is less =
+    let end : after_line line.start line.next ≡ source.next = omega (arith, is.start, is.next, less) in
+    ap (λ (v : BuilderView). v.at) adds.goes_on ∙ end
+
 -- a whole line is held
-pub whole_held : (text : List ℕ) (position : Position) (line : Line) (source : SourceLine)
-    → position.at ≡ line.start → position.owed ≡ 0 → IsLineRest text position line source
+pub whole_held : (pass : Pass) (line : Line) (source : SourceLine) → IsSource pass line source
     → IsHeld (whole_of line) source
-whole_held text position line source at owed is = record {
-  start = sym at ∙ ap (λ (left : LineLeft). left.scanned) is.rest.left;
-  owed = sym owed ∙ ap (λ (left : LineLeft). left.owed) is.rest.left;
+whole_held pass line source is = record {
+  start = ap (λ (left : LineLeft). left.scanned) is.left;
+  owed = ap (λ (left : LineLeft). left.owed) is.left;
   few = omega arith;
-  next = is.rest.next;
+  next = is.next;
 }
 
--- a whole line closes metadata where that of the definition does
-pub line_closes : (text : List ℕ) (position : Position) (line : Line) (source : SourceLine) (kind : MetadataBlockKind)
-    → position.at ≡ line.start → IsLineRest text position line source
-    → closes_metadata kind (slice_range text line.start line.stop) ≡ closes_metadata kind source.left.bytes
-line_closes text position line source kind at is =
-    ap (closes_metadata kind) (ap (λ n. slice_range text n line.stop) (sym at)
-    ∙ ap (λ (left : LineLeft). left.bytes) is.rest.left)
+-- ---- fenced code
 
--- three things that hold where a call returns
-pub record Three (A B C : Type 0) : Type 0 where
-  pub first : A
-  pub second : B
-  pub third : C
+abbrev pub fenced_body : ItemBody
+fenced_body = body.FencedCodeBlock (record { 0 = 0 })
 
-pub ok_three : {X E : Type 0} (r : Result X E) (P Q R : X → Type 0) → IfOk r P → IfOk r Q → IfOk r R
-    → IfOk r (λ x. Three (P x) (Q x) (R x))
-ok_three (Ok x) P Q R p q t = record { first = p; second = q; third = t }
-ok_three (Err e) P Q R p q t = tt
+pub fenced_lined : (s : Source) (frames : List Frame) (b : Block) (opening : OpeningFence) (ended : Bool)
+    (lines : List SourceLine) (to : ℕ) → b.kind ≡ was.fenced_leaf opening ended lines → b.last ≡ to
+    → IsLined s frames b fenced_body (Some (info_of s opening)) (body.Text false) lines to
+fenced_lined s frames b opening ended lines to is last =
+    lined_by s frames b _ _ _ _ _ _ is refl refl last (rw last refl)
 
--- ---- a leaf that refers to nothing
+pub closes_alike : (s : Source) (text : List ℕ) (position : Position) (line : Line) (source : SourceLine)
+    (fence : Fence)
+    → text ≡ s.text → IsLineRest text position line source
+    → is_closed_at text position line fence ≡ closes s source fence
+closes_alike s text position line source fence same is =
+    ap (λ left. nat_lt (leading_space 4 left).columns 4
+    && closes_fence text (leading_space 4 left).after.scanned line.stop fence) is.rest.left
+    ∙ (ap (λ n. nat_lt (leading_space 4 source.left).columns 4
+    && closes_fence text (leading_space 4 source.left).after.scanned n fence) is.stop
+    ∙ ap (λ t. nat_lt (leading_space 4 source.left).columns 4
+    && closes_fence t (leading_space 4 source.left).after.scanned (stop_of source) fence) same)
 
-abbrev pub opened_as : BuilderView → (at to : ℕ) → ItemBody → BuilderView → BuilderView
-opened_as old at to now new = record old {
-  at = to;
-  blocks = old.blocks ++ record { start = at; body = now } ∷ [];
-  leaf = true;
-  run = new.run;
-  levels = new.levels;
-  texts = new.texts;
-}
+pub fenced_grows : (s : Source) (frames : List Frame) (b : Block) (source : SourceLine) (now : Kind) (fence : Fence)
+    (ended : Bool) (kind : Kind) → b.kind ≡ kind → IsLeafKind (leaf.Fenced fence) kind
+    → leaf_with s source kind ≡ Some now → closes s source fence ≡ ended
+    → Grows s frames b now source.next (body.Text false) (if ended then [] else cut fence.indent source ∷ []) ended
+fenced_grows s frames b source now fence ended (was.fenced_leaf opening false lines) is same goes closes_now =
+    rw (← same) (grows_or_ends s frames b source (cut opening.fence.indent source) now
+    (was.fenced_leaf opening true lines)
+    (was.fenced_leaf opening false (lines ++ cut opening.fence.indent source ∷ [])) (closes s source opening.fence)
+    ended goes (ap (closes s source) same ∙ closes_now) refl refl
+    (fenced_lined s frames b opening false lines _ is refl)
+    (fenced_lined s frames _ opening true lines _ refl refl) (fenced_lined s frames _ opening false _ _ refl refl))
+fenced_grows s frames b source now fence ended other is same goes closes_now = absurd same
 
--- a leaf that refers to nothing was opened, with these lines
-pub record OpensPlain (s : Source) (frames : List Frame) (old new : BuilderView) (b : Block) (at to : ℕ)
-    (now line : ItemBody) (lines : List SourceLine) : Type 0 where
-  pub plain : (parts : Parts) (start end : ℕ)
-      → shown_item parts (record { start = start; end = end; body = now }) ≡ plain_item start end now
-  pub leaf : is_leaf b.kind ≡ true
-  pub same : new ≡ opened_as old at to now new
-  pub levels : OpensWith old new (source_lines line lines)
-  pub texts : HasMoreTexts old new
-  pub shown : shown_leaf s frames b ≡ shown_over at to now None (chain_of (source_lines line lines))
-  pub end : to ≡ block_end b b.first b.kind
+-- ---- metadata
 
-pub plain_leaf_opened : (s : Source) (old new : BuilderView) (frames : List Frame) (inside : Forest Block) (b : Block)
-    (at to : ℕ) (now line : ItemBody) (lines : List SourceLine) → IsBuilt s old frames inside
-    → OpensPlain s frames old new b at to now line lines → IsOpenIn s new frames inside true b
-plain_leaf_opened s old new frames inside b at to now line lines built opens =
-    let end = ap (λ (v : BuilderView). v.at) opens.same in
-    opened_leaf s old new frames inside b opens.leaf built (record {
-      block = record { start = at; body = now };
-      items = source_lines line lines;
-      same = opens.same ∙ ap (λ n. opened_as old at n now new) (sym end);
-      levels = opens.levels;
-      texts = opens.texts;
-      shown = ap (λ a. node a (chain_of (source_lines line lines)) nil) (opens.plain (parts_of new) at new.at)
-          ∙ (ap (λ n. shown_over at n now None (chain_of (source_lines line lines))) end ∙ sym opens.shown);
-      end = end ∙ opens.end;
+pub metadata_lined : (s : Source) (frames : List Frame) (b : Block) (kind : MetadataBlockKind) (ended : Bool)
+    (lines : List SourceLine) (to : ℕ) → b.kind ≡ was.metadata_leaf kind ended lines → b.last ≡ to
+    → IsLined s frames b (body.MetadataBlock kind) None (body.Text false) lines to
+metadata_lined s frames b kind ended lines to is last =
+    lined_by s frames b _ _ _ _ _ _ is refl refl last (rw last refl)
+
+pub metadata_grows : (s : Source) (frames : List Frame) (b : Block) (source : SourceLine) (now : Kind)
+    (how : MetadataBlockKind) (ended : Bool) (kind : Kind) → b.kind ≡ kind → IsLeafKind (leaf.Metadata how) kind
+    → leaf_with s source kind ≡ Some now → closes_metadata how source.left.bytes ≡ ended
+    → Grows s frames b now source.next (body.Text false) (if ended then [] else source ∷ []) ended
+metadata_grows s frames b source now how ended (was.metadata_leaf found false lines) is same goes closes_now =
+    grows_or_ends s frames b source source now (was.metadata_leaf found true lines)
+    (was.metadata_leaf found false (lines ++ source ∷ [])) (closes_metadata found source.left.bytes) ended goes
+    (ap (λ k. closes_metadata k source.left.bytes) same ∙ closes_now) refl refl
+    (metadata_lined s frames b found false lines _ is refl) (metadata_lined s frames _ found true lines _ refl refl)
+    (metadata_lined s frames _ found false _ _ refl refl)
+metadata_grows s frames b source now how ended other is same goes closes_now = absurd same
+
+-- ---- HTML blocks
+
+pub html_lined : (s : Source) (frames : List Frame) (b : Block) (kind : HtmlKind) (ended : Bool)
+    (lines : List SourceLine) (to : ℕ) → b.kind ≡ was.html_leaf kind ended lines → b.last ≡ to
+    → IsLined s frames b body.HtmlBlock None body.Html lines to
+html_lined s frames b kind ended lines to is last = lined_by s frames b _ _ _ _ _ _ is refl refl last (rw last refl)
+
+-- a line ends a block where that of the definition does
+pub html_alike : (text : List ℕ) (position : Position) (line : Line) (source : SourceLine) (kind : HtmlKind)
+    → IsLineRest text position line source → ends_html_at text position line kind ≡ ends_html kind source
+html_alike text position line source kind is = ap (λ (left : LineLeft). ends_in kind left.bytes) is.rest.left
+
+-- there is one next content byte
+pub same_content : (text : List ℕ) (from a b : ℕ) → IsNextContent text from (Some a) → IsNextContent text from (Some b)
+    → a ≡ b
+same_content text from a b one two = by_order (nat_lt a b) (nat_lt b a) refl refl
+  where
+    before : (m n : ℕ) → IsNextContent text from (Some m) → IsNextContent text from (Some n) → m < n → ⊥
+    before m n first second less =
+        true≢false (sym (second.1.passes m first.1.low less) ∙ first.1.stops first.0)
+
+    by_order : (less more : Bool) → nat_lt a b ≡ less → nat_lt b a ≡ more → a ≡ b
+    by_order true more e f = absurd (before a b one two (grind (arith, nat_tests, e)))
+    by_order false true e f = absurd (before b a two one (grind (arith, nat_tests, f)))
+    by_order false false e f = grind (arith, nat_tests, e, f)
+
+-- an HTML block was opened at a byte offset, filled, and moved to its first content byte
+pub record BeginsHtml (old begun : BuilderView) (from : ℕ) : Type 0 where
+  pub start : ℕ
+  pub content : IsNextContent old.text from (Some start)
+  pub blocks : begun.blocks ≡ old.blocks ++ record { start = start; body = body.HtmlBlock } ∷ []
+
+pub html_begins : (old now filled begun : BuilderView) (from to : ℕ) → Opens (stepped old from) now body.HtmlBlock
+    → GoesOn now filled to → BeginsAtContent filled begun → BeginsHtml old begun from
+html_begins old now filled begun from to opens goes_on begins =
+    let block : OpenBlock = record { start = from; body = body.HtmlBlock } in
+    let there = ap (λ (v : BuilderView). v.blocks) goes_on ∙ ap (λ (v : BuilderView). v.blocks) opens in
+    let text = ap (λ (v : BuilderView). v.text) goes_on ∙ ap (λ (v : BuilderView). v.text) opens in
+    let first = same_block filled.blocks (outer_of filled.blocks) old.blocks begins.blocks.block block
+    begins.blocks.was there in
+    record {
+      start = begins.start;
+      content = rw text at (rw first at begins.content);
+      blocks = begins.blocks.becomes ∙ rw (outer_of_these filled.blocks old.blocks block there, first) refl;
+    }
+
+-- its first line is in it
+pub html_begun : (s : Source) (old now filled begun : BuilderView) (frames : List Frame) (inside : Forest Block)
+    (b : Block) (kind : HtmlKind) (ended : Bool) (source : SourceLine) (from : ℕ) {line : HeldLine}
+    → IsBuilt s old frames inside → Opens (stepped old from) now body.HtmlBlock
+    → AddsLines now filled body.Html (line ∷ []) → IsHeld line source
+    → begun ≡ record filled { blocks = begun.blocks } → (begins : BeginsHtml old begun from)
+    → b.start ≡ begins.start → b.kind ≡ was.html_leaf kind ended (source ∷ []) → b.last ≡ begun.at
+    → IsOpenIn s begun frames inside true b
+html_begun s old now filled begun frames inside b kind ended source from built opens adds held same begins start is
+    last =
+    let moved : BuilderView = record now { blocks = begun.blocks } in
+    lined_opened s old moved begun frames inside b body.HtmlBlock built
+    (html_lined s frames b kind ended (source ∷ []) begun.at is last) (rw (start, opens, begins.blocks) refl)
+    (no_text old moved (ap (λ (v : BuilderView). v.texts) opens)) (record {
+      goes_on = rw (same, adds.goes_on) refl;
+      texts = record {
+        more = adds.texts.more;
+        are = ap (λ (v : BuilderView). v.texts) same ∙ adds.texts.are;
+      };
+      added = ap (λ (v : BuilderView). v.levels) same ∙ adds.items (source ∷ []) (held, tt);
+    }) (λ below. refl)
+
+-- the one that a test lets through
+if_some : {A : Type 0} (test : Bool) (one now : A) → (if test then Some one else None) ≡ Some now → one ≡ now
+if_some true one now e = same_Some one now e
+if_some false one now e = cc (e)
+
+if_none : {A : Type 0} (test : Bool) (one now : A) → (if test then None else Some one) ≡ Some now → one ≡ now
+if_none true one now e = cc (e)
+if_none false one now e = same_Some one now e
+
+pub html_grows : (s : Source) (frames : List Frame) (b : Block) (source : SourceLine) (now : Kind) (how : HtmlKind)
+    (kind : Kind) → b.kind ≡ kind → IsLeafKind (leaf.Html how) kind → leaf_with s source kind ≡ Some now
+    → Grows s frames b now source.next body.Html (source ∷ []) (ends_html how source)
+html_grows s frames b source now how (was.html_leaf found false lines) is same goes =
+    rw (← if_none (is_blank_rest source && ends_at_blank found) _ now goes) (record {
+      body = body.HtmlBlock;
+      text = None;
+      before = lines;
+      from = _;
+      was = html_lined s frames b found false lines _ is refl;
+      is = html_lined s frames _ found (ends_html found source) _ _ refl refl;
+      ends = ap (λ k. ends_html k source) same;
     })
+html_grows s frames b source now how other is same goes = absurd same
 
-pub lined_shown : (s : Source) (frames : List Frame) (b : Block) (kind : Kind) (now : ItemBody)
-    (text : Option (List ℕ)) (line : ItemBody) (lines : List SourceLine) (at to : ℕ)
-    → IsLined s kind now text line lines → b.kind ≡ kind → b.start ≡ at → b.last ≡ to
-    → shown_leaf s frames b ≡ shown_over at to now text (chain_of (source_lines line lines))
-lined_shown s frames b kind now text line lines at to is same start last =
-    shown_alone s (around_innermost in_no_item frames) b kind same
-    ∙ (is.shown (around_innermost in_no_item frames) b
-    ∙ (ap (λ n. shown_over n b.last now text (chain_of (source_lines line lines))) start
-    ∙ ap (λ n. shown_over at n now text (chain_of (source_lines line lines))) last))
+-- ---- the lines of code
+
+-- a line that is not blank is the last one of code
+pub code_to_end : (lines : List SourceLine) (l : SourceLine) → is_blank_rest l ≡ false
+    → code_lines (lines ++ l ∷ []) ≡ lines ++ l ∷ []
+code_to_end [] l some = ap (λ t. if t then [] else l ∷ []) some
+code_to_end (m ∷ []) l some = ap (before_code m) (code_to_end [] l some)
+code_to_end (m ∷ n ∷ lines) l some = ap (before_code m) (code_to_end (n ∷ lines) l some)
+
+-- and a blank line is not
+pub code_before_blank : (lines : List SourceLine) (l : SourceLine) → is_blank_rest l ≡ true
+    → code_lines (lines ++ l ∷ []) ≡ code_lines lines
+code_before_blank [] l blank = ap (λ t. if t then [] else l ∷ []) blank
+code_before_blank (m ∷ lines) l blank = ap (before_code m) (code_before_blank lines l blank)
+
+pub end_of_last : (before : ℕ) (lines : List SourceLine) (l : SourceLine) → lines_end before (lines ++ l ∷ []) ≡ l.next
+end_of_last before [] l = refl
+end_of_last before (m ∷ lines) l = end_of_last m.next lines l
+
+-- ---- indented code
+
+-- the blank lines at its end are not shown
+pub code_lined : (s : Source) (frames : List Frame) (b : Block) (lines code : List SourceLine) (to : ℕ)
+    → b.kind ≡ was.indented_leaf lines → code_lines lines ≡ code → lines_end b.first code ≡ to
+    → IsLined s frames b body.IndentCodeBlock None (body.Text false) code to
+code_lined s frames b lines code to is same end =
+    lined_by s frames b _ _ _ _ _ _ is refl refl (rw same end)
+    (rw (same, end) refl)
+
+-- the lines that a line adds are the blank lines that were held back, and itself
+pub record CodeGrows (s : Source) (frames : List Frame) (b : Block) (now : Kind) (next : ℕ) (held : List HeldLine)
+    (one : SourceLine) : Type 0 where
+  pub blank : List SourceLine
+  pub are : AreHeld held blank
+  pub grows : Grows s frames b now next (body.Text false) (blank ++ one ∷ []) false
+
+pub code_grows : (s : Source) (frames : List Frame) (b : Block) (source : SourceLine) (now : Kind)
+    (held : List HeldLine) (kind : Kind) → b.kind ≡ kind → IsLeafKind leaf.Indented kind → HoldsBlanks held kind
+    → leaf_with s source kind ≡ Some now → is_blank_rest source ≡ false
+    → CodeGrows s frames b now source.next held (cut 4 source)
+code_grows s frames b source now held (was.indented_leaf lines) is same holds goes filled =
+    let blank = holds.0 in
+    let all = code_to_end lines (cut 4 source) (blank_alike 4 source.left ∙ filled) in
+    let parts : lines ++ cut 4 source ∷ [] ≡ code_lines lines ++ (blank ++ cut 4 source ∷ []) =
+    ap (λ ls. ls ++ cut 4 source ∷ []) holds.1 ∙ append_assoc (code_lines lines) blank (cut 4 source ∷ []) in
+    record {
+      blank = blank;
+      are = holds.2;
+      grows = rw (← if_some (is_blank_rest source || ((leading_space 4 source.left).columns == 4)) _ now goes) (record {
+        body = body.IndentCodeBlock;
+        text = None;
+        before = code_lines lines;
+        from = lines_end b.first (code_lines lines);
+        was = code_lined s frames b lines (code_lines lines) _ is refl refl;
+        is = code_lined s frames _ (lines ++ cut 4 source ∷ []) _ source.next refl (all ∙ parts)
+            (ap (lines_end b.first) (sym parts) ∙ end_of_last b.first lines (cut 4 source));
+        ends = refl;
+      });
+    }
+code_grows s frames b source now held other is same holds goes filled = absurd same
+
+-- a blank line that is held back changes nothing of it
+pub blank_held : (s : Source) (view : BuilderView) (frames : List Frame) (inside : Forest Block) (b : Block)
+    (lines : List SourceLine) (source : SourceLine) → IsOpenIn s view frames inside true b
+    → b.kind ≡ was.indented_leaf lines → is_blank_rest source ≡ true
+    → IsOpenIn s view frames inside true (grown_to b source.next (was.indented_leaf (lines ++ cut 4 source ∷ [])))
+blank_held s view frames inside b lines source is_open same blank =
+    let c = grown_to b source.next (was.indented_leaf (lines ++ cut 4 source ∷ [])) in
+    let one = code_lined s frames b lines (code_lines lines) _ same refl refl in
+    let other = code_lined s frames c _ (code_lines lines) _ refl
+    (code_before_blank lines (cut 4 source) (blank_alike 4 source.left ∙ blank)) refl in
+    record {
+      outer = is_open.outer;
+      block = is_open.block;
+      levels = is_open.levels;
+      below = is_open.below;
+      around = is_open.around;
+      blocks = is_open.blocks;
+      leaf = is_open.leaf;
+      trees = is_open.trees;
+      shown = is_open.shown ∙ (one.shown ∙ sym other.shown);
+      end = is_open.end ∙ (leaf_end frames inside b one.leaf ∙ (one.end ∙ sym (leaf_end frames inside c refl
+          ∙ other.end)));
+    }
+
+-- ---- thematic breaks and headings
+
+pub break_placed : (s : Source) (old new : BuilderView) (frames : List Frame) (inside : Forest Block) (b : Block)
+    → IsBuilt s old frames inside → AppendsItem old new body.Rule b.last → b.kind ≡ was.break_leaf
+    → b.start ≡ old.at → IsPlaced s new frames (followed_by inside (leaf_block b))
+break_placed s old new frames inside b built appends kind start =
+    placed_leaf s old new frames inside b (ap is_leaf kind) built (rw appends refl)
+    (no_text old new (ap (λ (v : BuilderView). v.texts) appends))
+    (ap (λ (v : BuilderView). v.levels) appends ∙ rw (← start) (ap (with_trees old.levels)
+    (sym (shown_alone s (around_innermost in_no_item frames) b was.break_leaf kind))))
+    (ap (λ (v : BuilderView). v.at) appends ∙ sym (ap (block_end b b.first) kind))
+
+-- a heading was opened, and filled with the items of its content
+pub heading_opened : (s : Source) (old opened now : BuilderView) (frames : List Frame) (inside : Forest Block)
+    (b : Block) (heading : AtxHeading) {items : List Shown} → IsBuilt s old frames inside
+    → OpensHeadingOf old opened heading.level heading.braces → PutsItems opened now items
+    → items ≡ content_items s.text (item_syntax s.syntax) heading.from heading.to
+    → b.kind ≡ was.heading_leaf heading → b.start ≡ old.at → b.last ≡ now.at → IsOpenIn s now frames inside true b
+heading_opened s old opened now frames inside b heading {items} built opens puts content kind start last =
+    by_braces heading.braces refl opens
+  where
+    whole : shown_leaf s frames b
+        ≡ shown_heading s old.at now.at heading.level heading.braces (chain_of items)
+    whole =
+        shown_alone s (around_innermost in_no_item frames) b (was.heading_leaf heading) kind
+        ∙ (followed_by-nil _ ∙ rw (start, last, content) refl)
+
+    by_body : (h : ItemBody) → opened ≡ record old {
+      blocks = old.blocks ++ record { start = old.at; body = h } ∷ [];
+      leaf = true;
+      run = None;
+      levels = old.levels ++ nil ∷ [];
+      headings = opened.headings;
+    } → node (shown_item (parts_of now) (record { start = old.at; end = now.at; body = h })) (chain_of items) nil
+        ≡ shown_heading s old.at now.at heading.level heading.braces (chain_of items)
+        → IsOpenIn s now frames inside true b
+    by_body h opens shown =
+        opened_leaf s old now frames inside b (ap is_leaf kind) built (record {
+          block = record { start = old.at; body = h };
+          items = items;
+          same = rw (puts.goes_on, opens) refl;
+          levels = puts.added ∙ ap (λ (v : BuilderView). with_items v.levels items) opens;
+          texts = texts_after old opened now (no_text old opened (ap (λ (v : BuilderView). v.texts) opens)) puts.texts;
+          shown = shown ∙ sym whole;
+          end = sym (ap (block_end b b.first) kind ∙ last);
+        })
+
+    by_braces : (braces : Option Braces) → heading.braces ≡ braces → OpensHeadingOf old opened heading.level braces
+        → IsOpenIn s now frames inside true b
+    by_braces None none opens = by_body (body.Heading heading.level None) (rw opens refl) (rw none refl)
+    by_braces (Some braces) some opens =
+        by_body (body.Heading heading.level (Some opens.2.0)) (rw opens.2.2 refl)
+        (rw some (ap (λ a. node a (chain_of items) nil)
+        (attributed_shown now.texts now.alignments now.headings old.headings opens.0 _ heading.level opens.2.0 old.at
+        now.at (ap (λ (v : BuilderView). v.headings) puts.goes_on ∙ ap (λ (v : BuilderView). v.headings) opens.2.2)
+        opens.2.1 (opens.1 ∙ ap (λ t. heading_of_words heading.level (words_in t braces)) built.text))))

@@ -20,9 +20,7 @@ use Rattle.markdown_plain.proofs.ListLoosenessLemmas.{one_of_three}
 
 holds_more : (f g : Forest Block) → holds_block (followed_by f g) ≡ (holds_block f || holds_block g)
 holds_more nil g = refl
-holds_more (node b below after) g =
-    ap (λ h. not (is_blank_block b.kind) || h) (holds_more after g)
-    ∙ sym (or_assoc (not (is_blank_block b.kind)) (holds_block after) (holds_block g))
+holds_more (node b below after) g = rw (holds_more after g, or_assoc) refl
 
 -- blocks end as the last of them does
 pub ends_more : (before : Bool) (f g : Forest Block)
@@ -58,11 +56,8 @@ separated_with true nil g = refl
 separated_with false nil g = refl
 separated_with e (node b below after) g =
     let ends = block_ends_blank (ends_blank false below) b.kind in
-    ap (λ h. (e && (not (is_blank_block b.kind) || h)) || ((ends && holds_block (followed_by after g))
-    || are_separated (followed_by after g))) (holds_more after g)
-    ∙ (ap (λ h. (e && (not (is_blank_block b.kind) || (holds_block after || holds_block g))) || h)
-    (separated_with ends after g)
-    ∙ separates e (not (is_blank_block b.kind)) (holds_block after) ((ends && holds_block after) || are_separated after)
+    rw (separated_with ends after g, holds_more after g)
+    (separates e (not (is_blank_block b.kind)) (holds_block after) ((ends && holds_block after) || are_separated after)
     (ends_blank ends after) (holds_block g) (are_separated g) (λ other here blank. ends_so b.kind other here))
   where
     ends_so : (kind : Kind) → not (is_blank_block kind) ≡ false → holds_block after ≡ false
@@ -77,28 +72,19 @@ separated_more f g = separated_with false f g
 
 hold_more : (f g : Forest Block) → hold_separated (followed_by f g) ≡ (hold_separated f || hold_separated g)
 hold_more nil g = refl
-hold_more (node b below after) g =
-    ap (λ h. are_separated below || h) (hold_more after g)
-    ∙ sym (or_assoc (are_separated below) (hold_separated after) (hold_separated g))
+hold_more (node b below after) g = rw (hold_more after g, or_assoc) refl
 
 -- one more block is separated from others by a blank line at their end
 pub one_separated : (f new : Forest Block) → IsOneBlock new
     → are_separated (followed_by f new) ≡ (are_separated f || ends_blank false f)
 one_separated f nil one = absurd one
 one_separated f (node b below after) one =
-    rw (
-      separated_more f (node b below after),
-      one.1,
-      one.0,
-      and-true (ends_blank false f),
-      and-false (block_ends_blank (ends_blank false below) b.kind),
-    ) (or-false (are_separated f || ends_blank false f))
+    rw (separated_more f (node b below after), one.1, one.0, and-true, and-false) (or-false _)
 
 -- ---- the blocks in an open list
 
 -- what is in a container does not separate it from others
-pub closed_separated : (f : Frame) (inside : Forest Block)
-    → are_separated (forgotten f inside)
+pub closed_separated : (f : Frame) (inside : Forest Block) → are_separated (forgotten f inside)
     ≡ (are_separated f.before || (ends_blank false f.before && not (is_blank_block f.block.kind)))
 closed_separated f inside =
     rw (
@@ -108,8 +94,7 @@ closed_separated f inside =
     ) (or-false (are_separated f.before || (ends_blank false f.before && not (is_blank_block f.block.kind))))
 
 -- a list is loose by what is in its last item
-pub loose_by_last : (f : Frame) (inside : Forest Block)
-    → is_loose (forgotten f inside)
+pub loose_by_last : (f : Frame) (inside : Forest Block) → is_loose (forgotten f inside)
     ≡ ((are_separated (forgotten f nil) || hold_separated f.before) || are_separated inside)
 loose_by_last f inside =
     rw (
@@ -117,29 +102,22 @@ loose_by_last f inside =
       closed_separated f nil,
       hold_more f.before (node f.block inside nil),
       or-false (are_separated inside),
-    )
-    (sym (or_assoc (are_separated f.before || (ends_blank false f.before && not (is_blank_block f.block.kind)))
+    ) (sym (or_assoc (are_separated f.before || (ends_blank false f.before && not (is_blank_block f.block.kind)))
     (hold_separated f.before) (are_separated inside)))
 
 -- a list is loose whose last item has separated blocks
 pub loose_last : (f : Frame) (inside : Forest Block) → are_separated inside ≡ true
     → is_loose (forgotten f inside) ≡ true
-loose_last f inside apart =
-    loose_by_last f inside
-    ∙ (ap (λ s. (are_separated (forgotten f nil) || hold_separated f.before) || s) apart
-    ∙ or-true (are_separated (forgotten f nil) || hold_separated f.before))
+loose_last f inside apart = rw (loose_by_last f inside, apart) (or-true _)
 
 pub same_last : (f : Frame) (inside now : Forest Block) → are_separated inside ≡ are_separated now
     → is_loose (forgotten f inside) ≡ is_loose (forgotten f now)
-same_last f inside now same =
-    loose_by_last f inside
-    ∙ (ap (λ s. (are_separated (forgotten f nil) || hold_separated f.before) || s) same ∙ sym (loose_by_last f now))
+same_last f inside now same = rw (loose_by_last f inside, loose_by_last f now, same) refl
 
 -- blocks in a container are not directly in the item around it
 same_deeper : (f g : Frame) (inside now : Forest Block)
     → is_loose (forgotten f (forgotten g inside)) ≡ is_loose (forgotten f (forgotten g now))
-same_deeper f g inside now =
-    same_last f (forgotten g inside) (forgotten g now) (closed_separated g inside ∙ sym (closed_separated g now))
+same_deeper f g inside now = same_last f _ _ (rw (closed_separated g inside, closed_separated g now) refl)
 
 -- a list with one more item, which is empty so far, is loose where it was, or where it ended with a blank line
 pub loose_with_item : (inside : Forest Block) (item : Block) → is_blank_block item.kind ≡ false
@@ -163,12 +141,7 @@ pub loose_more : (frames more : List Frame) (inside : Forest Block)
     → are_loose (frames ++ more) inside ≡ are_loose frames (rebuilt more inside) ++ are_loose more inside
 loose_more [] more inside = refl
 loose_more (f ∷ frames) more inside =
-    ap (λ loose. listed (is_list f.block.kind) loose (are_loose (frames ++ more) inside))
-    (ap is_loose (rebuilt_in frames more inside))
-    ∙ (ap (listed (is_list f.block.kind) (is_loose (rebuilt frames (rebuilt more inside))))
-    (loose_more frames more inside)
-    ∙ listed_more (is_list f.block.kind) (is_loose (rebuilt frames (rebuilt more inside)))
-    (are_loose frames (rebuilt more inside)) (are_loose more inside))
+    rw (rebuilt_in frames more inside, loose_more frames more inside) (listed_more (is_list f.block.kind) _ _ _)
 
 -- the innermost list, whose flag depends on the blocks in the innermost container as those of the others do not
 pub record ByInnermost (frames : List Frame) (loose : Forest Block → Bool) : Type 0 where
@@ -181,35 +154,25 @@ around : (f g : Frame) (frames : List Frame) (loose : Forest Block → Bool)
     → ByInnermost (g ∷ frames) loose → ByInnermost (f ∷ g ∷ frames) loose
 around f g frames loose steady by = by_kind (is_list f.block.kind) refl
   where
-    as_listed : (inside : Forest Block) (list : Bool) → is_list f.block.kind ≡ list
-        → are_loose (f ∷ g ∷ frames) inside
-        ≡ listed list (is_loose (rebuilt (g ∷ frames) inside)) (are_loose (g ∷ frames) inside)
-    as_listed inside list is =
-        ap (λ list. listed list (is_loose (rebuilt (g ∷ frames) inside)) (are_loose (g ∷ frames) inside)) is
-
     by_kind : (list : Bool) → is_list f.block.kind ≡ list → ByInnermost (f ∷ g ∷ frames) loose
     by_kind true is = record {
       outer = is_loose (rebuilt (g ∷ frames) nil) ∷ by.outer;
-      is = λ inside. as_listed inside true is ∙ (ap (λ flag. flag ∷ are_loose (g ∷ frames) inside) (steady is inside)
-          ∙ ap (λ flags. is_loose (rebuilt (g ∷ frames) nil) ∷ flags) (by.is inside));
+      is = λ inside. rw (is, steady is inside, by.is inside) refl;
     }
-    by_kind false is = record {
-      outer = by.outer;
-      is = λ inside. as_listed inside false is ∙ by.is inside;
-    }
+    by_kind false is = record { outer = by.outer; is = λ inside. rw is (by.is inside) }
 
 -- the innermost container is a list
 pub by_list : (frames : List Frame) → AreNested frames → innermost_is is_list frames ≡ true
     → ByInnermost frames is_loose
 by_list [] nested list = absurd (true≢false (sym list))
-by_list (f ∷ []) nested list = record { outer = []; is = λ inside. ap (λ b. listed b (is_loose inside) []) list }
+by_list (f ∷ []) nested list = record { outer = []; is = λ inside. rw list refl }
 by_list (f ∷ g ∷ []) nested list =
     let inner = sym (innermost_inner is_list f g []) ∙ list in
     around f g [] is_loose (λ other. absurd (true≢false (sym other ∙ (nested.0 ∙ list_no_item g.block.kind inner))))
     (by_list (g ∷ []) nested.1 inner)
 by_list (f ∷ g ∷ h ∷ frames) nested list =
     around f g (h ∷ frames) is_loose (λ other inside. same_deeper g h (rebuilt frames inside) (rebuilt frames nil))
-    (by_list (g ∷ h ∷ frames) nested.1 (sym (innermost_inner is_list f g (h ∷ frames)) ∙ list))
+    (by_list (g ∷ h ∷ frames) nested.1 (rw innermost_inner at list))
 
 -- the innermost container is an item, in a list
 pub record ByItem (frames : List Frame) : Type 0 where
@@ -222,16 +185,10 @@ by_item f g [] nested item =
     let inner = sym (innermost_inner is_item f g []) ∙ item in
     record {
       item = g;
-      by = record {
-        outer = [];
-        is = λ inside. ap (λ list. listed list (is_loose (forgotten g inside)) (are_loose (g ∷ []) inside))
-            (nested.0 ∙ inner)
-            ∙ ap (λ list. is_loose (forgotten g inside) ∷ listed list (is_loose inside) [])
-            (item_no_list g.block.kind inner);
-      };
+      by = record { outer = []; is = λ inside. rw (nested.0, inner, item_no_list g.block.kind inner) refl };
     }
 by_item f g (h ∷ frames) nested item =
-    let inner = by_item g h frames nested.1 (sym (innermost_inner is_item f g (h ∷ frames)) ∙ item) in
+    let inner = by_item g h frames nested.1 (rw innermost_inner at item) in
     record {
       item = inner.item;
       by = around f g (h ∷ frames) (λ inside. is_loose (forgotten inner.item inside))
@@ -240,19 +197,14 @@ by_item f g (h ∷ frames) nested item =
 
 -- the innermost container is neither
 pub by_other : (frames : List Frame) → AreNested frames → innermost_is is_list frames ≡ false
-    → innermost_is is_item frames ≡ false → (inside now : Forest Block)
-    → are_loose frames inside ≡ are_loose frames now
+    → innermost_is is_item frames ≡ false → (inside now : Forest Block) → are_loose frames inside ≡ are_loose frames now
 by_other [] nested list item inside now = refl
-by_other (f ∷ []) nested list item inside now =
-    ap (λ b. listed b (is_loose inside) []) list ∙ sym (ap (λ b. listed b (is_loose now) []) list)
+by_other (f ∷ []) nested list item inside now = rw list refl
 by_other (f ∷ g ∷ []) nested list item inside now =
     let inner = sym (innermost_inner is_item f g []) ∙ item in
-    ap (λ b. listed b (is_loose (forgotten g inside)) (are_loose (g ∷ []) inside)) (nested.0 ∙ inner)
-    ∙ (by_other (g ∷ []) nested.1 (sym (innermost_inner is_list f g []) ∙ list) inner inside now
-    ∙ sym (ap (λ b. listed b (is_loose (forgotten g now)) (are_loose (g ∷ []) now)) (nested.0 ∙ inner)))
+    rw (nested.0, inner) (by_other (g ∷ []) nested.1 (sym (innermost_inner is_list f g []) ∙ list) inner inside now)
 by_other (f ∷ g ∷ h ∷ frames) nested list item inside now =
-    ap (λ loose. listed (is_list f.block.kind) loose (are_loose (g ∷ h ∷ frames) inside))
-    (same_deeper g h (rebuilt frames inside) (rebuilt frames now))
-    ∙ ap (listed (is_list f.block.kind) (is_loose (rebuilt (g ∷ h ∷ frames) now)))
-    (by_other (g ∷ h ∷ frames) nested.1 (sym (innermost_inner is_list f g (h ∷ frames)) ∙ list)
-    (sym (innermost_inner is_item f g (h ∷ frames)) ∙ item) inside now)
+    rw (
+      same_deeper g h (rebuilt frames inside) (rebuilt frames now),
+      by_other (g ∷ h ∷ frames) nested.1 (rw innermost_inner at list) (rw innermost_inner at item) inside now,
+    ) refl

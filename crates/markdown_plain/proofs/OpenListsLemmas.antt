@@ -1,6 +1,6 @@
 -- What the pass remembers of lists, as a block is added, and as containers are opened and closed.
-use Rattle.std.proofs.Common.{◌≡◌, ℕ, ◌+◌, List, [], ◌∷◌, ◌++◌, Bool, true, false, ◌&&◌, ◌||◌, not, refl, sym, ap}
-use Rattle.std.proofs.Common.{◌∙◌, Option, Some, None, length, subst, arith, append-nil, if◌then◌else◌}
+use Rattle.std.proofs.Common.{◌≡◌, ℕ, ◌+◌, List, [], ◌∷◌, ◌++◌, Bool, true, false, ◌&&◌, ◌||◌, not, refl, sym, ap, ◌∙◌}
+use Rattle.std.proofs.Common.{Option, Some, None, length, subst, arith, append-nil}
 use Rattle.std.proofs.Math.Bool.{or-false, or-true}
 use Rattle.std.proofs.lemmas.Bool.{true≢false}
 use Rattle.markdown_base.specs.Forest.{Forest, nil, node}
@@ -8,10 +8,8 @@ use Rattle.markdown_builder.specs.declared.open_block.OpenBlock.{OpenBlock}
 use Rattle.markdown_builder.specs.TreeLevels.{followed_by}
 use Rattle.markdown_block_rules.specs.BlockGrowth as was
 use Rattle.markdown_block_rules.specs.BlockGrowth.{Block, Kind, is_nil}
-use Rattle.markdown_block_rules.specs.BlockRules.{are_separated, block_ends_blank, ends_blank, is_blank_block}
-use Rattle.markdown_block_rules.specs.BlockRules.{is_loose}
+use Rattle.markdown_block_rules.specs.BlockRules.{are_separated, block_ends_blank, ends_blank, is_blank_block, is_loose}
 use Rattle.markdown_plain.specs.Frames.{AreNested, Frame, forgotten, innermost_is, is_item, is_list, is_quote}
-use Rattle.markdown_plain.specs.Frames.{rebuilt}
 use Rattle.markdown_plain.specs.ListLooseness as body
 use Rattle.markdown_plain.specs.ListLooseness.{is_after_blank}
 use Rattle.markdown_plain.specs.OpenBlocks as block
@@ -22,8 +20,8 @@ use Rattle.markdown_plain.proofs.ClosedFramesLemmas.{as_many_open}
 use Rattle.markdown_plain.proofs.FramesInsideLemmas.{inner_item_no_quote, inner_list_no_quote, item_no_list}
 use Rattle.markdown_plain.proofs.FramesInsideLemmas.{item_of_open}
 use Rattle.markdown_plain.proofs.FramesLemmas.{innermost_inner}
-use Rattle.markdown_plain.proofs.LooseFramesLemmas.{by_item, by_list, by_other, loose_last, loose_more}
-use Rattle.markdown_plain.proofs.LooseFramesLemmas.{loose_with_item, one_separated, same_last}
+use Rattle.markdown_plain.proofs.LooseFramesLemmas.{by_item, by_list, by_other, loose_last, loose_more, loose_with_item}
+use Rattle.markdown_plain.proofs.LooseFramesLemmas.{one_separated, same_last}
 
 -- ---- what is known of the innermost container
 
@@ -36,7 +34,7 @@ empty_item empty (f ∷ []) inside item known = in_item f.block.kind item known
     in_item (was.item_container indent) is this = this
     in_item other is this = absurd (true≢false (sym is))
 empty_item empty (f ∷ g ∷ frames) inside item known =
-    empty_item empty (g ∷ frames) inside (sym (innermost_inner is_item f g frames) ∙ item) known
+    empty_item empty (g ∷ frames) inside (rw innermost_inner at item) known
 
 -- it ends with a blank line, where it is known from a number of blocks outside on
 blank_inner : (from : Option ℕ) (outside : ℕ) (f : Frame) (frames : List Frame) (inside : Forest Block)
@@ -44,8 +42,9 @@ blank_inner : (from : Option ℕ) (outside : ℕ) (f : Frame) (frames : List Fra
     → is_blank_in from (outside + length (f ∷ frames)) ≡ ends_blank false inside
 blank_inner from outside f [] inside other known = known.0 other
 blank_inner from outside f (g ∷ frames) inside other known =
-    ap (is_blank_in from) (omega arith)
-    ∙ blank_inner from (outside + 1) g frames inside (sym (innermost_inner is_quote f g frames) ∙ other) known.1
+    let deeper = blank_inner from (outside + 1) g frames inside (rw innermost_inner at other) known.1 in
+    let same : outside + length (f ∷ g ∷ frames) ≡ (outside + 1) + length (g ∷ frames) = omega arith in
+    rw same deeper
 
 after_blank : (from : Option ℕ) (blocks : List OpenBlock)
     → is_after_blank from blocks ≡ is_blank_in from (length blocks)
@@ -57,8 +56,8 @@ blank_in_blocks : (from : Option ℕ) (texts : List (List ℕ)) (blocks : List O
     (inside : Forest Block) → AreOpen texts blocks (f ∷ frames) → innermost_is is_quote (f ∷ frames) ≡ false
     → BlanksKnown from 0 (f ∷ frames) inside → is_after_blank from blocks ≡ ends_blank false inside
 blank_in_blocks from texts blocks f frames inside these other known =
-    after_blank from blocks ∙ (ap (is_blank_in from) (as_many_open texts blocks (f ∷ frames) these)
-    ∙ (ap (is_blank_in from) (omega arith) ∙ blank_inner from 0 f frames inside other known))
+    after_blank from blocks ∙ rw (as_many_open texts blocks (f ∷ frames) these)
+    (ap (is_blank_in from) (omega arith) ∙ blank_inner from 0 f frames inside other known)
 
 -- ---- a block, and an item, in the innermost container
 
@@ -75,48 +74,34 @@ pub record LoosenedIf (test : Bool) (old new : List Bool) : Type 0 where
 -- a block in an item
 block_in_item : (frames : List Frame) (inside new : Forest Block) (old now : List Bool) (test : Bool) → AreNested frames
     → innermost_is is_item frames ≡ true → old ≡ are_loose frames inside → IsOneBlock new
-    → test ≡ ends_blank false inside → LoosenedIf test old now
-    → now ≡ are_loose frames (followed_by inside new)
+    → test ≡ ends_blank false inside → LoosenedIf test old now → now ≡ are_loose frames (followed_by inside new)
 block_in_item [] inside new old now test nested item is one blank change = absurd (true≢false (sym item))
 block_in_item (f ∷ []) inside new old now true nested item is one blank change =
-    let none = ap (λ (list : Bool). if list then is_loose inside ∷ [] else []) (item_no_list f.block.kind item) in
-    (change.raised refl).none (is ∙ none)
-    ∙ sym (ap (λ (list : Bool). if list then is_loose (followed_by inside new) ∷ [] else [])
-    (item_no_list f.block.kind item))
+    let none = item_no_list f.block.kind item in rw none ((change.raised refl).none (rw none at is))
 block_in_item (f ∷ []) inside new old now false nested item is one blank change =
-    let none = ap (λ (list : Bool). if list then is_loose inside ∷ [] else []) (item_no_list f.block.kind item) in
-    change.stays refl ∙ (is ∙ (none
-    ∙ sym (ap (λ (list : Bool). if list then is_loose (followed_by inside new) ∷ [] else [])
-    (item_no_list f.block.kind item))))
+    let none = item_no_list f.block.kind item in rw none (change.stays refl ∙ (rw none at is))
 block_in_item (f ∷ g ∷ frames) inside new old now true nested item is one blank change =
     let inner = by_item f g frames nested item in
     let apart : are_separated (followed_by inside new) ≡ true =
-    one_separated inside new one
-    ∙ (ap (λ b. are_separated inside || b) (sym blank) ∙ or-true (are_separated inside)) in
-    (change.raised refl).loose inner.by.outer (is_loose (forgotten inner.item inside)) (is ∙ inner.by.is inside)
-    ∙ sym (inner.by.is (followed_by inside new)
-    ∙ ap (λ flag. inner.by.outer ++ flag ∷ []) (loose_last inner.item (followed_by inside new) apart))
+    rw (one_separated inside new one, ← blank) (or-true (are_separated inside)) in
+    rw (inner.by.is (followed_by inside new), loose_last inner.item (followed_by inside new) apart)
+    ((change.raised refl).loose inner.by.outer (is_loose (forgotten inner.item inside)) (is ∙ inner.by.is inside))
 block_in_item (f ∷ g ∷ frames) inside new old now false nested item is one blank change =
     let inner = by_item f g frames nested item in
-    let same : are_separated inside ≡ are_separated (followed_by inside new) =
-    sym (one_separated inside new one ∙ (ap (λ b. are_separated inside || b) (sym blank)
-    ∙ or-false (are_separated inside))) in
-    change.stays refl ∙ (is ∙ (inner.by.is inside
-    ∙ (ap (λ flag. inner.by.outer ++ flag ∷ []) (same_last inner.item inside (followed_by inside new) same)
-    ∙ sym (inner.by.is (followed_by inside new)))))
+    let same : are_separated (followed_by inside new) ≡ are_separated inside =
+    rw (one_separated inside new one, ← blank) (or-false (are_separated inside)) in
+    rw (change.stays refl, is, inner.by.is inside, inner.by.is (followed_by inside new))
+    (rw (same_last inner.item (followed_by inside new) inside same) refl)
 
 -- the test of the pass, where the innermost container is an item
 blank_in_item : (now : Looseness) (texts : List (List ℕ)) (blocks : List OpenBlock) (f : Frame) (frames : List Frame)
     (inside : Forest Block) → AreOpen texts blocks (f ∷ frames) → innermost_is is_item (f ∷ frames) ≡ true
-    → now.item_is_empty ≡ is_nil inside
-    → (is_nil inside ≡ false → BlanksKnown now.blank_from 0 (f ∷ frames) inside)
+    → now.item_is_empty ≡ is_nil inside → (is_nil inside ≡ false → BlanksKnown now.blank_from 0 (f ∷ frames) inside)
     → (not now.item_is_empty && is_after_blank now.blank_from blocks) ≡ ends_blank false inside
-blank_in_item now texts blocks f frames nil these item empty known =
-    ap (λ b. not b && is_after_blank now.blank_from blocks) empty
+blank_in_item now texts blocks f frames nil these item empty known = rw empty refl
 blank_in_item now texts blocks f frames (node b below after) these item empty known =
-    ap (λ b. not b && is_after_blank now.blank_from blocks) empty
-    ∙ blank_in_blocks now.blank_from texts blocks f frames (node b below after) these
-    (inner_item_no_quote (f ∷ frames) item) (known refl)
+    rw empty (blank_in_blocks now.blank_from texts blocks f frames (node b below after) these
+    (inner_item_no_quote (f ∷ frames) item) (known refl))
 
 -- the innermost open block is an item that had a blank line after a block
 abbrev pub parts_block : Looseness → List OpenBlock → Bool
@@ -137,10 +122,9 @@ block_added old new texts blocks frames inside change empty these nested other l
         → parts_block old blocks ≡ ends_blank false inside
     in_frames [] these item loose known = absurd (true≢false (sym item))
     in_frames (f ∷ frames) these item loose known =
-        ap (λ b. b && (not old.item_is_empty && is_after_blank old.blank_from blocks))
-        (item_of_open texts blocks (f ∷ frames) these ∙ item)
-        ∙ blank_in_item old texts blocks f frames inside these item
-        (empty_item old.item_is_empty (f ∷ frames) inside item loose.empty) known
+        rw (item_of_open texts blocks (f ∷ frames) these, item)
+        (blank_in_item old texts blocks f frames inside these item
+        (empty_item old.item_is_empty (f ∷ frames) inside item loose.empty) known)
 
     by_kind : (item : Bool) → innermost_is is_item frames ≡ item → (n : Forest Block) → IsOneBlock n
         → new.lists.items ≡ are_loose frames (followed_by inside n)
@@ -148,8 +132,7 @@ block_added old new texts blocks frames inside change empty these nested other l
         block_in_item frames inside n old.lists.items new.lists.items (parts_block old blocks) nested item loose.lists
         one (in_frames frames these item loose known) change
     by_kind false item n one =
-        change.stays (ap (λ b. b && (not old.item_is_empty && is_after_blank old.blank_from blocks))
-        (item_of_open texts blocks frames these ∙ item))
+        change.stays (rw (item_of_open texts blocks frames these, item) refl)
         ∙ (loose.lists ∙ by_other frames nested other item inside (followed_by inside n))
 
 item_no_blank : (kind : Kind) → is_item kind ≡ true → is_blank_block kind ≡ false
@@ -174,15 +157,12 @@ lists_with_item : (frames : List Frame) (inside : Forest Block) (item : Block) (
     → new ≡ are_loose frames (followed_by inside (node item nil nil))
 lists_with_item frames inside item old new true nested list kind is blank change =
     let by = by_list frames nested list in
-    (change.raised refl).loose by.outer (is_loose inside) (is ∙ by.is inside)
-    ∙ sym (by.is (followed_by inside (node item nil nil)) ∙ ap (λ flag. by.outer ++ flag ∷ [])
-    (loose_with_item inside item (item_no_blank item.kind kind)
-    ∙ (ap (λ b. is_loose inside || b) (sym blank) ∙ or-true (is_loose inside))))
+    rw (by.is, loose_with_item inside item (item_no_blank item.kind kind), ← blank, or-true)
+    ((change.raised refl).loose by.outer (is_loose inside) (is ∙ by.is inside))
 lists_with_item frames inside item old new false nested list kind is blank change =
     let by = by_list frames nested list in
-    change.stays refl ∙ (is ∙ (by.is inside ∙ sym (by.is (followed_by inside (node item nil nil))
-    ∙ ap (λ flag. by.outer ++ flag ∷ []) (loose_with_item inside item (item_no_blank item.kind kind)
-    ∙ (ap (λ b. is_loose inside || b) (sym blank) ∙ or-false (is_loose inside))))))
+    rw (by.is (followed_by inside _), loose_with_item inside item (item_no_blank item.kind kind), ← blank, or-false)
+    (change.stays refl ∙ (is ∙ by.is inside))
 
 -- another item begins in the innermost container, which is a list
 pub item_added : (old new : Looseness) (texts : List (List ℕ)) (blocks : List OpenBlock) (frames : List Frame)
@@ -195,15 +175,12 @@ item_added old new texts blocks [] inside item change empty these nested list lo
     absurd (true≢false (sym list))
 item_added old new texts blocks (f ∷ frames) inside item change empty these nested list loose known kind =
     let last : Frame = record { before = inside; block = item } in
+    let blank = blank_in_blocks old.blank_from texts blocks f frames inside these
+    (inner_list_no_quote (f ∷ frames) list) known in
     record {
       lists = lists_with_item (f ∷ frames) inside item old.lists.items new.lists.items
-          (is_after_blank old.blank_from blocks) nested list kind loose.lists
-          (blank_in_blocks old.blank_from texts blocks f frames inside these (inner_list_no_quote (f ∷ frames) list)
-          known)
-          change
-          ∙ sym (loose_more (f ∷ frames) (last ∷ []) nil
-          ∙ (ap (λ (b : Bool). are_loose (f ∷ frames) (rebuilt (last ∷ []) nil) ++ (if b then false ∷ [] else []))
-          (item_no_list item.kind kind) ∙ append-nil (are_loose (f ∷ frames) (rebuilt (last ∷ []) nil))));
+          (is_after_blank old.blank_from blocks) nested list kind loose.lists blank change
+          ∙ sym (loose_more (f ∷ frames) (last ∷ []) nil ∙ rw (item_no_list item.kind kind) (append-nil _));
       empty = subst (λ e. EmptyKnown e (f ∷ (frames ++ last ∷ [])) nil) (sym empty)
           (empty_more true (f ∷ frames) last [] nil (item_is_empty item.kind kind));
     }
@@ -231,16 +208,15 @@ list_begun old new frames inside list item more empty before kind inner =
     let last : Frame = record { before = nil; block = item } in
     let one : Forest Block = node list (node item nil nil) nil in
     record {
-      lists = more
-          ∙ (ap (λ (bs : List Bool). bs ++ false ∷ []) (before.lists one (list_no_blank list.kind kind, refl))
-          ∙ sym (loose_more frames (outer ∷ last ∷ []) nil
-          ∙ (ap (λ (b : Bool). are_loose frames (followed_by inside one)
-          ++ (if b then is_loose (node item nil nil) ∷ are_loose (last ∷ []) nil else are_loose (last ∷ []) nil)) kind
-          ∙ (ap (λ (b : Bool). are_loose frames (followed_by inside one)
-          ++ is_loose (node item nil nil) ∷ (if b then false ∷ [] else [])) (item_no_list item.kind inner)
-          ∙ ap (λ (b : Bool). are_loose frames (followed_by inside one) ++ b ∷ []) (item_starts item inner)))));
-      empty = subst (λ e. EmptyKnown e (frames ++ outer ∷ last ∷ []) nil) (sym empty)
-          (empty_more true frames outer (last ∷ []) nil (item_is_empty item.kind inner));
+      lists = rw (
+        more,
+        before.lists one (list_no_blank list.kind kind, refl),
+        loose_more frames (outer ∷ last ∷ []) nil,
+        kind,
+        item_no_list item.kind inner,
+        item_starts item inner,
+      ) refl;
+      empty = rw empty (empty_more true frames outer (last ∷ []) nil (item_is_empty item.kind inner));
     }
 
 -- ---- a container is closed
@@ -284,22 +260,17 @@ empty_after empty (g ∷ []) f inside nested other known = by_item (is_item f.bl
   where
     by_item : (item : Bool) → is_item f.block.kind ≡ item → EmptyKnown empty (g ∷ []) (forgotten f inside)
     by_item true is = known_in_list empty (forgotten f inside) g.block.kind (nested.0 ∙ is)
-    by_item false is =
-        full_after empty (g ∷ []) f inside (known_elsewhere empty inside f.block.kind other is known)
+    by_item false is = full_after empty (g ∷ []) f inside (known_elsewhere empty inside f.block.kind other is known)
 empty_after empty (g ∷ h ∷ frames) f inside nested other known =
     empty_after empty (h ∷ frames) f inside nested.1 other known
 
 -- a container that is no list is closed
 pub other_closed : (old new : Looseness) (frames : List Frame) (f : Frame) (inside : Forest Block)
     → new.lists.items ≡ old.lists.items → new.item_is_empty ≡ old.item_is_empty → is_list f.block.kind ≡ false
-    → AreNested (frames ++ f ∷ []) → IsLooseAs old (frames ++ f ∷ []) inside
-    → IsLooseAs new frames (forgotten f inside)
+    → AreNested (frames ++ f ∷ []) → IsLooseAs old (frames ++ f ∷ []) inside → IsLooseAs new frames (forgotten f inside)
 other_closed old new frames f inside same empty other nested loose = record {
-  lists = same ∙ (loose.lists ∙ (loose_more frames (f ∷ []) inside
-      ∙ (ap (λ (b : Bool). are_loose frames (forgotten f inside) ++ (if b then is_loose inside ∷ [] else [])) other
-      ∙ append-nil (are_loose frames (forgotten f inside)))));
-  empty = subst (λ e. EmptyKnown e frames (forgotten f inside)) (sym empty)
-      (empty_after old.item_is_empty frames f inside nested other loose.empty);
+  lists = rw (same, loose.lists, loose_more frames (f ∷ []) inside, other) (append-nil _);
+  empty = rw empty (empty_after old.item_is_empty frames f inside nested other loose.empty);
 }
 
 -- the last of some flags, and those before it, are what is taken off
@@ -310,17 +281,13 @@ ends_alike [] (b ∷ c ∷ ys) x y e = cc (e)
 ends_alike (a ∷ []) [] x y e = cc (e)
 ends_alike (a ∷ c ∷ xs) [] x y e = cc (e)
 ends_alike (a ∷ xs) (b ∷ ys) x y e =
-    let h = ends_alike xs ys x y (cc (e)) in
-    let first : a ≡ b = cc (e) in
-    (h.0, ap (λ (zs : List Bool). a ∷ zs) h.1 ∙ ap (λ c. c ∷ ys) first)
+    let h = ends_alike xs ys x y (cc (e)) in let first : a ≡ b = cc (e) in (h.0, cc (h.1, first))
 
 -- the flags with the innermost list
 inner_flag : (now : Looseness) (frames : List Frame) (f : Frame) (inside : Forest Block)
     → is_list f.block.kind ≡ true → IsLooseAs now (frames ++ f ∷ []) inside
     → now.lists.items ≡ are_loose frames (forgotten f inside) ++ is_loose inside ∷ []
-inner_flag now frames f inside list loose =
-    loose.lists ∙ (loose_more frames (f ∷ []) inside
-    ∙ ap (λ (b : Bool). are_loose frames (forgotten f inside) ++ (if b then is_loose inside ∷ [] else [])) list)
+inner_flag now frames f inside list loose = rw (loose.lists, loose_more frames (f ∷ []) inside, list) refl
 
 -- a list is closed, and its flag taken off
 pub list_closed : (old new : Looseness) (loose : Bool) (frames : List Frame) (f : Frame) (inside : Forest Block)

@@ -1,6 +1,6 @@
 -- Which block is the innermost open one: a table, another leaf, or a container; and so whether a leaf block is open.
-use Rattle.std.proofs.Common.{◌≡◌, ℕ, Bool, true, false, not, ◌||◌, List, [], ◌∷◌, Option, Some, None, suc, ◌-◌}
-use Rattle.std.proofs.Common.{arith, length, refl, sym, ap, ◌∙◌, true≢false, subst}
+use Rattle.std.proofs.Common.{◌≡◌, ℕ, Bool, true, false, not, ◌||◌, List, [], ◌∷◌, Option, Some, None, suc, ◌-◌, arith}
+use Rattle.std.proofs.Common.{length, refl, sym, ap, ◌∙◌, true≢false, subst}
 use Rattle.std.specs.Prelude.{slice_get}
 use Rattle.std.specs.Option.{option_map_or}
 use Rattle.markdown_base.specs.Forest.{Forest, nil, node}

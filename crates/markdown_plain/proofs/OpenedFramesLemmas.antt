@@ -1,13 +1,11 @@
 -- A container that is opened: one more frame, and nothing else of the tree changes.
-use Rattle.std.proofs.Common.{◌≡◌, ℕ, zero, suc, Bool, true, false, List, [], ◌∷◌, ◌++◌, Some, refl, sym, ap, ◌∙◌}
-use Rattle.std.proofs.Common.{◌-◌, ◌<◌, ◌≤◌, Option, None, length, take, drop, take_all, length-take-le, subst, arith}
-use Rattle.std.proofs.Common.{append-nil}
-use Rattle.std.specs.Prelude.{◌==◌, slice_get, Result, Ok, Err}
+use Rattle.std.proofs.Common.{◌≡◌, ℕ, suc, true, false, List, [], ◌∷◌, ◌++◌, Some, refl, sym, ap, ◌∙◌, ◌-◌, ◌<◌, ◌≤◌}
+use Rattle.std.proofs.Common.{Option, None, length, take, drop, take_all, length-take-le, arith, append-nil}
+use Rattle.std.specs.Prelude.{◌==◌, Result, Ok, Err}
 use Rattle.std.specs.Result.{IfOk}
-use Rattle.std.proofs.lemmas.List.{drop_all}
+use Rattle.std.proofs.lemmas.List.{drop_all, take-append-drop}
 use Rattle.std.proofs.lemmas.Bool.{true≢false}
 use Rattle.std.proofs.lemmas.Bool.Decides.{nat_tests}
-use native.Mathlib.Numerals.{unary_clauses}
 use Rattle.markdown_base.specs.Forest.{Forest, nil, node}
 use Rattle.markdown_base.specs.declared.item.ItemBody.{ItemBody}
 use Rattle.markdown_base.specs.declared.item.ItemBody.TheVariants as body
@@ -32,8 +30,9 @@ use Rattle.markdown_plain.specs.NewContainers.{is_list_of}
 use Rattle.markdown_plain.specs.OpenBlocks as own
 use Rattle.markdown_plain.proofs.AppendedBlocksLemmas.{definitions_appended, footnotes_appended, open_after}
 use Rattle.markdown_plain.proofs.ClosedFramesLemmas.{as_many_open, last_kept, levels_parted}
-use Rattle.markdown_plain.proofs.FramesInsideLemmas.{inner_last}
-use Rattle.markdown_plain.proofs.FramesLemmas.{innermost_inner, rebuilt_more}
+use Rattle.markdown_plain.proofs.FramesInsideLemmas.{TestsAlike, inner_alike, inner_last, list_of_open, no_list_around}
+use Rattle.markdown_plain.proofs.FramesInsideLemmas.{tests_alike}
+use Rattle.markdown_plain.proofs.FramesLemmas.{innermost_inner, outer_nested, rebuilt_more}
 use Rattle.markdown_plain.proofs.LeafTreesLemmas.{get_last, on_test}
 
 -- ---- one more frame
@@ -42,29 +41,6 @@ levels_more : (s : Source) (frames : List Frame) (f : Frame)
     → levels_shown s in_no_item (frames ++ f ∷ []) nil ≡ levels_shown s in_no_item frames f.before ++ nil ∷ []
 unfolding shown_blocks
 levels_more s frames f = levels_parted s in_no_item frames f nil
-
-pub nested_taken : (n : ℕ) (frames : List Frame) → AreNested frames → AreNested (take n frames)
-nested_taken zero frames nested = tt
-nested_taken (suc n) [] nested = tt
-nested_taken (suc n) (f ∷ []) nested = single n
-  where
-    single : (n : ℕ) → AreNested (f ∷ take n [])
-    single zero = tt
-    single (suc n) = tt
-nested_taken (suc zero) (f ∷ g ∷ frames) nested = tt
-nested_taken (suc (suc n)) (f ∷ g ∷ frames) nested = (nested.0, nested_taken (suc n) (g ∷ frames) nested.1)
-
--- a list is in no list
-pub list_outside : (frames : List Frame) (f : Frame) → is_list f.block.kind ≡ true → AreNested (frames ++ f ∷ [])
-    → innermost_is is_list frames ≡ false
-list_outside [] f list nested = refl
-list_outside (g ∷ []) f list nested = nested.0 ∙ no_item f.block.kind list
-  where
-    no_item : (kind : Kind) → is_list kind ≡ true → is_item kind ≡ false
-    no_item (was.item_container indent) e = absurd (true≢false (sym e))
-    no_item other e = refl
-list_outside (g ∷ h ∷ frames) f list nested =
-    innermost_inner is_list g h frames ∙ list_outside (h ∷ frames) f list nested.1
 
 nested_more : (frames : List Frame) (f : Frame) → innermost_is is_list frames ≡ is_item f.block.kind
     → AreNested frames → AreNested (frames ++ f ∷ [])
@@ -80,8 +56,7 @@ open_more : (texts : List (List ℕ)) (blocks : List OpenBlock) (frames : List F
 open_more texts [] [] block f are is = (is, tt)
 open_more texts [] (g ∷ frames) block f are is = absurd are
 open_more texts (other ∷ blocks) [] block f are is = absurd are
-open_more texts (other ∷ blocks) (g ∷ frames) block f are is =
-    (are.0, open_more texts blocks frames block f are.1 is)
+open_more texts (other ∷ blocks) (g ∷ frames) block f are is = (are.0, open_more texts blocks frames block f are.1 is)
 
 -- ---- what is built
 
@@ -107,8 +82,7 @@ no_lines texts other b is = refl
 
 none_of_lines : (s : Source) (b : Block) → paragraph_lines b.kind ≡ [] → definitions_in s (node b nil nil) ≡ []
 unfolding definitions_in divided_in
-none_of_lines s b none =
-    ap (λ lines. (divided (entity_names s.syntax) s.text lines).definitions ++ ([] ++ [])) none
+none_of_lines s b none = ap (λ lines. (divided (entity_names s.syntax) s.text lines).definitions ++ ([] ++ [])) none
 
 own_label : (b : Block) → footnotes_in (node b nil nil) ≡ label_of b.kind
 unfolding footnotes_in
@@ -119,24 +93,18 @@ opened_is_built : (s : Source) (old new : BuilderView) (frames : List Frame) (in
     → IsBuilt s new (with_frame frames inside b) nil
 opened_is_built s old new frames inside b opens fits built =
     let f : Frame = record { before = inside; block = b } in
-    let open_still = subst (λ texts. AreOpen texts old.blocks frames) (sym opens.texts)
-    (open_after old.texts opens.more old.blocks frames built.blocks) in
-    let open_now = open_more new.texts old.blocks frames opens.block f open_still
-    (record { start = opens.start; body = opens.body }) in
+    let still : AreOpen new.texts old.blocks frames =
+    rw opens.texts (open_after old.texts opens.more old.blocks frames built.blocks) in
     record {
-      text = opens.text ∙ built.text;
-      blocks = subst (λ blocks. AreOpen new.texts blocks (frames ++ f ∷ [])) (sym opens.blocks) open_now;
+      text = cc;
+      blocks = rw opens.blocks (open_more new.texts old.blocks frames opens.block f still
+          (record { start = opens.start; body = opens.body }));
       nested = nested_more frames f fits built.nested;
       outside = opens.outside;
-      levels = opens.levels ∙ (ap (λ ls. ls ++ nil ∷ []) built.levels ∙ sym (levels_more s frames f));
-      definitions = opens.definitions ∙ (built.definitions ∙ sym (ap (definitions_in s) (rebuilt_more frames f nil)
-          ∙ (definitions_appended s frames inside (node b nil nil)
-          ∙ (ap (λ ds. definitions_in s (rebuilt frames inside) ++ ds)
-          (none_of_lines s b (no_lines new.texts b.kind opens.block.body opens.body))
-          ∙ append-nil (definitions_in s (rebuilt frames inside))))));
-      footnotes = opens.footnotes ∙ (ap (λ ls. ls ++ label_of b.kind) built.footnotes
-          ∙ sym (ap footnotes_in (rebuilt_more frames f nil) ∙ (footnotes_appended frames inside (node b nil nil)
-          ∙ ap (λ ls. footnotes_in (rebuilt frames inside) ++ ls) (own_label b))));
+      levels = rw (opens.levels, built.levels) (sym (levels_more s frames f));
+      definitions = rw (opens.definitions, built.definitions, rebuilt_more frames f nil, definitions_appended)
+          (rw (none_of_lines s b (no_lines new.texts b.kind opens.block.body opens.body)) (sym (append-nil _)));
+      footnotes = rw (opens.footnotes, built.footnotes, rebuilt_more frames f nil, footnotes_appended, own_label) refl;
     }
 
 -- ---- containers that refer to nothing
@@ -160,64 +128,29 @@ pub plain_is_built : (s : Source) (old new : BuilderView) (frames : List Frame) 
     → b.start ≡ at → b.kind ≡ kind → innermost_is is_list frames ≡ is_item kind → IsBuilt s old frames inside
     → IsBuilt s new (with_frame frames inside b) nil
 plain_is_built s old new frames inside b at kind now plain opens start same fits built =
-    opened_is_built s old new frames inside b (record {
+    rw opens (opened_is_built s old _ frames inside b (record {
       block = record { start = at; body = now };
       more = [];
       start = sym start;
-      body = subst (λ k. IsBodyOf new.texts k now) (sym same) (plain.is new.texts);
-      text = ap (λ (v : BuilderView). v.text) opens;
-      blocks = ap (λ (v : BuilderView). v.blocks) opens;
-      outside = ap (λ (v : BuilderView). v.leaf) opens ∙ plain.inner;
-      levels = ap (λ (v : BuilderView). v.levels) opens;
-      texts = ap (λ (v : BuilderView). v.texts) opens ∙ sym (append-nil old.texts);
-      definitions = ap (λ (v : BuilderView). v.definitions) opens;
-      footnotes = ap (λ (v : BuilderView). v.footnotes) opens
-          ∙ (sym (append-nil old.footnotes)
-          ∙ ap (λ ls. old.footnotes ++ ls) (sym (ap label_of same ∙ plain.unnamed)));
-    }) (fits ∙ ap is_item (sym same)) built
+      body = rw same (plain.is old.texts);
+      text = refl;
+      blocks = refl;
+      outside = plain.inner;
+      levels = refl;
+      texts = sym (append-nil old.texts);
+      definitions = refl;
+      footnotes = rw (same, plain.unnamed, append-nil old.footnotes) refl;
+    }) (rw same fits) built)
 
 -- ---- the innermost container, as an open block
 
--- a test of bodies is one of kinds
-abbrev TestsAlike : (ItemBody → Bool) → (Kind → Bool) → Type 0
-TestsAlike test is = (texts : List (List ℕ)) (kind : Kind) (b : ItemBody) → IsBodyOf texts kind b → test b ≡ is kind
-
-lists_alike : TestsAlike own.is_list is_list
-lists_alike texts was.quote_container b e = ap own.is_list e
-lists_alike texts (was.alert_container kind) b e = ap own.is_list e
-lists_alike texts (was.list_container marker) b e = ap own.is_list e
-lists_alike texts (was.item_container indent) b e = ap own.is_list e
-lists_alike texts (was.footnote_container label) b e = ap own.is_list e.1
-lists_alike texts other b e = absurd e
-
 goes_on_alike : (marker : ListMarker) → TestsAlike (is_list_of marker.character) (is_list_for marker)
-goes_on_alike marker texts was.quote_container b e = ap (is_list_of marker.character) e
-goes_on_alike marker texts (was.alert_container kind) b e = ap (is_list_of marker.character) e
-goes_on_alike marker texts (was.list_container found) b e =
-    ap (is_list_of marker.character) e ∙ turned found.character marker.character
+goes_on_alike marker =
+    tests_alike (is_list_of marker.character) (is_list_for marker) refl (λ kind. refl)
+    (λ found. turned found.character marker.character) (λ indent. refl) (λ ix label. refl)
   where
     turned : (m n : ℕ) → (m == n) ≡ (n == m)
     turned m n = grind (arith, nat_tests)
-goes_on_alike marker texts (was.item_container indent) b e = ap (is_list_of marker.character) e
-goes_on_alike marker texts (was.footnote_container label) b e = ap (is_list_of marker.character) e.1
-goes_on_alike marker texts other b e = absurd e
-
-innermost_alike : (test : ItemBody → Bool) (is : Kind → Bool) → TestsAlike test is → (texts : List (List ℕ))
-    (blocks : List OpenBlock) (frames : List Frame) → AreOpen texts blocks frames
-    → own.innermost_is test blocks ≡ innermost_is is frames
-innermost_alike test is alike texts [] [] are = refl
-innermost_alike test is alike texts [] (f ∷ frames) are = absurd are
-innermost_alike test is alike texts (block ∷ blocks) [] are = absurd are
-innermost_alike test is alike texts (block ∷ []) (f ∷ []) are = alike texts f.block.kind block.body are.0.body
-innermost_alike test is alike texts (block ∷ []) (f ∷ g ∷ frames) are = absurd are.1
-innermost_alike test is alike texts (block ∷ inner ∷ blocks) (f ∷ []) are = absurd are.1
-innermost_alike test is alike texts (block ∷ inner ∷ blocks) (f ∷ g ∷ frames) are =
-    block_inside test block inner blocks
-    ∙ (innermost_alike test is alike texts (inner ∷ blocks) (g ∷ frames) are.1 ∙ sym (innermost_inner is f g frames))
-  where
-    block_inside : (test : ItemBody → Bool) (block inner : OpenBlock) (blocks : List OpenBlock)
-        → own.innermost_is test (block ∷ inner ∷ blocks) ≡ own.innermost_is test (inner ∷ blocks)
-    block_inside test block inner blocks = simp unary_clauses refl
 
 pub as_many_containers : (s : Source) (view : BuilderView) (frames : List Frame) (inside : Forest Block)
     → IsBuilt s view frames inside → length view.blocks ≡ length frames
@@ -225,18 +158,16 @@ as_many_containers s view frames inside built = as_many_open view.texts view.blo
 
 pub list_innermost : (s : Source) (view : BuilderView) (frames : List Frame) (inside : Forest Block)
     → IsBuilt s view frames inside → own.innermost_is own.is_list view.blocks ≡ innermost_is is_list frames
-list_innermost s view frames inside built =
-    innermost_alike own.is_list is_list lists_alike view.texts view.blocks frames built.blocks
+list_innermost s view frames inside built = list_of_open view.texts view.blocks frames built.blocks
 
 pub list_goes_on : (marker : ListMarker) (s : Source) (view : BuilderView) (frames : List Frame)
     (inside : Forest Block) → IsBuilt s view frames inside
     → own.innermost_is (is_list_of marker.character) view.blocks ≡ innermost_is (is_list_for marker) frames
 list_goes_on marker s view frames inside built =
-    innermost_alike (is_list_of marker.character) (is_list_for marker) (goes_on_alike marker) view.texts view.blocks
+    inner_alike (is_list_of marker.character) (is_list_for marker) (goes_on_alike marker) view.texts view.blocks
     frames built.blocks
 
-pub list_is : (marker : ListMarker)
-    → IsPlain (was.list_container marker) (body.List true marker.character marker.first)
+pub list_is : (marker : ListMarker) → IsPlain (was.list_container marker) (body.List true marker.character marker.first)
 list_is marker = record { inner = refl; is = λ texts. refl; unnamed = refl }
 
 pub item_is : (indent : ℕ) → IsPlain (was.item_container indent) (body.ListItem indent)
@@ -248,29 +179,25 @@ item_is indent = record { inner = refl; is = λ texts. refl; unnamed = refl }
 pub note_is_built : (s : Source) (old new : BuilderView) (frames : List Frame) (inside : Forest Block) (b : Block)
     (at : ℕ) (label : List ℕ) → OpensNaming (stepped old at) new body.FootnoteDefinition label
     → new.footnotes ≡ old.footnotes ++ label ∷ [] → b.start ≡ at → b.kind ≡ was.footnote_container label
-    → innermost_is is_list frames ≡ false → IsBuilt s old frames inside
-    → IsBuilt s new (with_frame frames inside b) nil
+    → innermost_is is_list frames ≡ false → IsBuilt s old frames inside → IsBuilt s new (with_frame frames inside b) nil
 note_is_built s old new frames inside b at label opens listed start same fits built =
     let now = body.FootnoteDefinition (record { 0 = length old.texts }) in
-    let texts = ap (λ (v : BuilderView). v.texts) opens in
-    let labelled : IsBodyOf new.texts (was.footnote_container label) now = (
-      record { 0 = length old.texts },
-      refl,
-      ap (λ ts. slice_get ts (length old.texts)) texts ∙ get_last old.texts label,
-    ) in
+    let texts : new.texts ≡ old.texts ++ label ∷ [] = rw opens refl in
+    let labelled : IsBodyOf new.texts (was.footnote_container label) now =
+    (record { 0 = length old.texts }, refl, rw texts (get_last old.texts label)) in
     opened_is_built s old new frames inside b (record {
       block = record { start = at; body = now };
       more = label ∷ [];
       start = sym start;
-      body = subst (λ kind. IsBodyOf new.texts kind now) (sym same) labelled;
-      text = ap (λ (v : BuilderView). v.text) opens;
-      blocks = ap (λ (v : BuilderView). v.blocks) opens;
-      outside = ap (λ (v : BuilderView). v.leaf) opens;
-      levels = ap (λ (v : BuilderView). v.levels) opens;
+      body = rw same labelled;
+      text = rw opens refl;
+      blocks = rw opens refl;
+      outside = rw opens refl;
+      levels = rw opens refl;
       texts = texts;
-      definitions = ap (λ (v : BuilderView). v.definitions) opens;
-      footnotes = listed ∙ ap (λ ls. old.footnotes ++ ls) (sym (ap label_of same));
-    }) (fits ∙ ap is_item (sym same)) built
+      definitions = rw opens refl;
+      footnotes = rw same listed;
+    }) (rw same fits) built
 
 -- what two clauses say of a result
 pub both_ok : {T E : Type 0} (r : Result T E) (P Q : T → Type 0) → IfOk r P → IfOk r Q → IfOk r (λ x. P x × Q x)
@@ -289,8 +216,7 @@ list_for_item marker (f ∷ []) e = is f.block.kind e
     is (was.list_container found) e = refl
     is other e = absurd (true≢false (sym e))
 list_for_item marker (f ∷ g ∷ frames) e =
-    innermost_inner is_list f g frames
-    ∙ list_for_item marker (g ∷ frames) (sym (innermost_inner (is_list_for marker) f g frames) ∙ e)
+    rw innermost_inner (list_for_item marker (g ∷ frames) (rw innermost_inner at e))
 
 -- a list is not the innermost of none
 list_among : (frames : List Frame) → innermost_is is_list frames ≡ true → 0 < length frames
@@ -302,26 +228,20 @@ pub room_is_free : (depth : ℕ) (frames : List Frame) → depth ≤ length fram
     → innermost_is is_list (take (room_depth depth frames) frames) ≡ false
 room_is_free depth frames few nested =
     on_test (λ n. innermost_is is_list (take n frames) ≡ false) (innermost_is is_list (take depth frames)) (depth - 1)
-    depth (λ list. outside list) (λ none. none)
-  where
-    outside : innermost_is is_list (take depth frames) ≡ true → innermost_is is_list (take (depth - 1) frames) ≡ false
-    outside list =
-        let some = list_among (take depth frames) list in
-        let many = length-take-le depth frames few in
-        let next : suc (depth - 1) ≡ depth = omega (arith, some, many) in
-        let last = last_kept (depth - 1) frames (omega (arith, next, few)) in
-        let taken : take depth frames ≡ take (depth - 1) frames ++ last.f ∷ [] =
-        ap (λ n. take n frames) (sym next) ∙ last.taken in
-        list_outside (take (depth - 1) frames) last.f
-        (sym (ap (innermost_is is_list) taken ∙ inner_last is_list (take (depth - 1) frames) last.f) ∙ list)
-        (subst AreNested taken (nested_taken depth frames nested))
+    depth (λ list.
+    let next : suc (depth - 1) ≡ depth =
+    omega (arith, list_among (take depth frames) list, length-take-le depth frames few) in
+    let last = last_kept (depth - 1) frames (omega (arith, next, few)) in
+    let taken : take depth frames ≡ take (depth - 1) frames ++ last.f ∷ [] = cc in
+    let both : AreNested (take depth frames ++ drop depth frames) = rw take-append-drop nested in
+    no_list_around (take (depth - 1) frames) last.f (rw taken at (outer_nested (take depth frames) _ both))
+    (cc (ap (innermost_is is_list) taken, inner_last is_list (take (depth - 1) frames) last.f, list))) (λ none. none)
 
 -- all of some containers
 all_taken : (P : List Frame → List Frame → Type 0) (frames : List Frame) → P frames []
     → P (take (length frames) frames) (drop (length frames) frames)
 all_taken P frames p =
-    subst (λ inner. P (take (length frames) frames) inner) (sym (drop_all (length frames) frames (omega arith)))
-    (subst (λ outer. P outer []) (sym (take_all (length frames) frames (omega arith))) p)
+    rw (drop_all (length frames) frames (omega arith), take_all (length frames) frames (omega arith)) p
 
 -- all of them but the last
 last_taken : (P : List Frame → List Frame → Type 0) (frames : List Frame) → 0 < length frames
@@ -333,19 +253,15 @@ last_taken P frames some p =
     let last = last_kept n frames (omega (arith, next)) in
     let whole : frames ≡ take n frames ++ last.f ∷ [] =
     sym (ap (λ k. take k frames) next ∙ take_all (length frames) frames (omega arith)) ∙ last.taken in
-    let rest : drop n frames ≡ last.f ∷ [] =
-    last.dropped ∙ ap (λ fs. last.f ∷ fs) (drop_all (suc n) frames (omega (arith, next))) in
-    subst (λ inner. P (take n frames) inner) (sym rest) (p (take n frames) last.f whole)
+    rw (last.dropped, drop_all (suc n) frames (omega (arith, next))) (p (take n frames) last.f whole)
 
 -- An item is put into the list that it continues, or into one that is put into what is no list, or that is put after
 -- another list.
 pub item_placed : (P : List Frame → Type 0) (marker : ListMarker) (list item : Block) (frames : List Frame)
-    (inside : Forest Block)
-    → (innermost_is (is_list_for marker) frames ≡ true → P (with_frame frames inside item))
+    (inside : Forest Block) → (innermost_is (is_list_for marker) frames ≡ true → P (with_frame frames inside item))
     → (innermost_is is_list frames ≡ false → P (with_frame (with_frame frames inside list) nil item))
     → ((outer : List Frame) (f : Frame) → frames ≡ outer ++ f ∷ [] → is_list f.block.kind ≡ true
-    → is_list_for marker f.block.kind ≡ false
-    → P (with_frame (with_frame outer (forgotten f inside) list) nil item))
+    → is_list_for marker f.block.kind ≡ false → P (with_frame (with_frame outer (forgotten f inside) list) nil item))
     → P (with_item marker list item frames inside)
 item_placed P marker list item frames inside goes_on begins changes =
     let all : take (length frames) frames ≡ frames = take_all (length frames) frames (omega arith) in

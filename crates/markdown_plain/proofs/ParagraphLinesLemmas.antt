@@ -1,5 +1,5 @@
 -- Lines of a paragraph: the breaks after them, the task marker before the first, and the braces at the end of the last.
-use Rattle.std.proofs.Common.{◌≡◌, ℕ, zero, suc, ◌+◌, ◌-◌, ◌<◌, ◌≤◌, Bool, true, false, List, [], ◌∷◌, ◌++◌, Option}
+use Rattle.std.proofs.Common.{◌≡◌, ℕ, zero, suc, ◌+◌, ◌-◌, ◌<◌, ◌≤◌, Bool, true, false, List, [], ◌∷◌, Option}
 use Rattle.std.proofs.Common.{Some, None, length, take, drop, slice_range, refl, sym, ap, ◌∙◌, subst, arith}
 use Rattle.std.proofs.Common.{length-drop}
 use Rattle.std.specs.Prelude.{slice_index, get_or, cond, nat_lt, ◌==◌, ◌&&◌, if◌then◌else◌}
@@ -49,23 +49,18 @@ range_byte text from stop k lt = get_or-take (stop - from) (drop from text) k 0 
 run_begins : (test : ℕ → Bool) (text : List ℕ) (from stop at : ℕ) → IsRunBefore test text from stop at
     → stop ≤ length text → at ≡ from + length (without_end test (slice_range text from stop))
 run_begins test text from stop at run within =
-    let low = run.low in
-    let high = run.high in
     let xs = slice_range text from stop in
     let long = range_length text from stop within in
     let size : suffix_len test xs ≡ length xs - (at - from) =
-    suffix_len_is test xs (at - from) 0 (omega (arith, long, low, high))
-    (λ k le lt.
+    suffix_len_is test xs (at - from) 0 (omega (arith, long, run.low, run.high)) (λ k le lt.
     let inside : k < stop - from = omega (arith, long, lt) in
     ap test (range_byte text from stop k inside)
-    ∙ run.passes (from + k) (omega (arith, le, low)) (omega (arith, inside)))
-    (λ some.
-    let inside : at - from - 1 < stop - from = omega (arith, some, low, high) in
-    let place : from + (at - from - 1) ≡ at - 1 = omega (arith, some, low) in
+    ∙ run.passes (from + k) (omega (arith, le, run.low)) (omega (arith, inside))) (λ some.
+    let inside : at - from - 1 < stop - from = omega (arith, some, run.low, run.high) in
+    let place : from + (at - from - 1) ≡ at - 1 = omega (arith, some, run.low) in
     ap test (range_byte text from stop (at - from - 1) inside ∙ ap (λ n. get_or text n 0) place)
     ∙ run.stops (at - 1) (omega (arith, some)) (omega (arith, some))) in
-    let left = trimmed_is test xs in
-    omega (arith, size, left, long, low, high)
+    omega (arith, size, trimmed_is test xs, long, run.low, run.high)
 
 -- the break after a line is that of its bytes
 break_is : (text : List ℕ) (from stop : ℕ) (between : LineBreak) → from ≤ stop → stop ≤ length text
@@ -73,20 +68,17 @@ break_is : (text : List ℕ) (from stop : ℕ) (between : LineBreak) → from �
 break_is text from stop between ordered within is =
     let xs = slice_range text from stop in
     let unspaced = without_end (λ b. b == space) xs in
-    let long = range_length text from stop within in
     let spaces = run_begins (λ b. b == space) text from stop is.spaces is.space_run within in
-    let high = is.space_run.high in
     let low = is.space_run.low in
     let size : length unspaced ≡ is.spaces - from = omega (arith, spaces) in
     let cut : slice_range text from is.spaces ≡ unspaced =
     sym (ap (λ n. take n xs) (trimmed_is (λ b. b == space) xs ∙ size)
-    ∙ take-take (is.spaces - from) (stop - from) (drop from text) (omega (arith, high))) in
-    let content = run_begins is_space_or_tab text from is.spaces is.content is.content_run (omega (arith, high, within))
-    ∙ ap (λ ys. from + length (without_end is_space_or_tab ys)) cut in
-    let end : stop ≡ from + length xs = omega (arith, long, ordered) in
+    ∙ take-take (is.spaces - from) (stop - from) (drop from text) (omega (arith, is.space_run.high))) in
+    let content = run_begins is_space_or_tab text from is.spaces is.content is.content_run
+    (omega (arith, is.space_run.high, within)) ∙ ap (λ ys. from + length (without_end is_space_or_tab ys)) cut in
+    let end : stop ≡ from + length xs = omega (arith, range_length text from stop within, ordered) in
     let slashes = run_begins (λ b. b == backslash) text from stop is.backslashes is.backslash_run within in
-    is.value
-    ∙ (ap (λ n. break_after n is.backslashes is.spaces is.content) end
+    is.value ∙ (ap (λ n. break_after n is.backslashes is.spaces is.content) end
     ∙ (ap (λ n. break_after (from + length xs) n is.spaces is.content) slashes
     ∙ (ap (λ n. break_after (from + length xs) _ n is.content) spaces
     ∙ ap (λ n. break_after (from + length xs) _ (from + length unspaced) n) content)))
@@ -116,9 +108,9 @@ some_left s source some =
 pub empty_line : (levels : List (Forest Shown)) (s : Source) (line : HeldLine) (source : SourceLine)
     → IsTextLine s.text line source → line.start ≡ line.stop → levels ≡ with_items levels (line_or_nothing s source)
 empty_line levels s line source is same =
-    let bytes = ap length is.bytes in
-    let long = length-take (line.stop - line.start) (drop line.start s.text) in
-    sym (ap (with_items levels) (none_left s source (omega (arith, bytes, long, same))) ∙ no_items levels)
+    sym (ap (with_items levels) (none_left s source
+    (omega (arith, ap length is.bytes, length-take (line.stop - line.start) (drop line.start s.text), same)))
+    ∙ no_items levels)
 
 -- a line and the break after it
 pub line_and_break : (levels mid after : List (Forest Shown)) (s : Source) (line : HeldLine) (source : SourceLine)
@@ -128,32 +120,22 @@ pub line_and_break : (levels mid after : List (Forest Shown)) (s : Source) (line
     → after ≡ with_items mid (plain_item between.start line.next between.body ∷ [])
     → after ≡ with_items levels (line_or_nothing s source)
 line_and_break levels mid after s line source between is some within broken first second =
-    let bytes = ap length is.bytes in
-    let long = range_length s.text line.start line.stop within in
     let value : between ≡ break_between source.left.scanned source.left.bytes =
     break_is s.text line.start line.stop between (omega (arith, some)) within broken
     ∙ (ap (λ n. break_between n (slice_range s.text line.start line.stop)) is.start
     ∙ ap (break_between source.left.scanned) is.bytes) in
-    let items : content_items s.text (item_syntax s.syntax) line.start between.text_end
-    ++ plain_item between.start line.next between.body ∷ []
-    ≡ broken_line s.text (item_syntax s.syntax) source =
-    ap (λ n. content_items s.text (item_syntax s.syntax) n between.text_end
-    ++ plain_item between.start line.next between.body ∷ []) is.start
-    ∙ (ap (λ n. content_items s.text (item_syntax s.syntax) source.left.scanned between.text_end
-    ++ plain_item between.start n between.body ∷ []) is.next
-    ∙ ap (λ (b : LineBreak). content_items s.text (item_syntax s.syntax) source.left.scanned b.text_end
-    ++ plain_item b.start source.next b.body ∷ []) value) in
-    second
-    ∙ (ap (λ ls. with_items ls (plain_item between.start line.next between.body ∷ [])) first
-    ∙ (more_items levels _ _
-    ∙ ap (with_items levels) (items ∙ sym (some_left s source (omega (arith, bytes, long, some))))))
+    let filled = some_left s source
+    (omega (arith, ap length is.bytes, range_length s.text line.start line.stop within, some)) in
+    let parts = more_items levels (content_items s.text (item_syntax s.syntax) line.start between.text_end)
+    (plain_item between.start line.next between.body ∷ []) in
+    rw (second, first, parts, filled, value, is.start, is.next) refl
 
 -- ---- task markers
 
-pub if_some : (test : Bool) (value : Option Bool) (done : Bool) → (if test then value else None) ≡ Some done
-    → (test ≡ true) × (value ≡ Some done)
-if_some true value done e = (refl, e)
-if_some false value done e = absurd (grind (arith, e))
+pub if_some : {A : Type 0} (test : Bool) (value : Option A) (a : A) → (if test then value else None) ≡ Some a
+    → (test ≡ true) × (value ≡ Some a)
+if_some true value a e = (refl, e)
+if_some false value a e = absurd (grind (arith, e))
 
 record HasMarker (bytes : List ℕ) (done : Bool) : Type 0 where
   opens : (slice_index bytes 0 == open_bracket) ≡ true
@@ -195,9 +177,7 @@ pub marked_line : (text : List ℕ) (line : HeldLine) (source : SourceLine) (don
 marked_line text line source done is marker =
     let inside = marker_within (slice_range text line.start line.stop) done (ap task_marker is.bytes ∙ marker) in
     let fits = range_fits text line.start line.stop inside.0 in
-    let long = inside.0 in
-    let task = inside.1 in
-    (omega (arith, fits, long), omega (arith, fits, task))
+    (omega (arith, fits, inside.0), omega (arith, fits, inside.1))
 
 -- what follows a task marker in a line
 pub line_past_task : (text : List ℕ) (line : HeldLine) (source : SourceLine) (done : Bool) (start : ℕ)
@@ -208,8 +188,8 @@ line_past_task text line source done start is marker e =
     let whole = slice_range text line.start line.stop in
     let n = task_length whole in
     let within = (marker_within whole done (ap task_marker is.bytes ∙ marker)).1 in
-    let most = length-take (line.stop - line.start) (drop line.start text) in
-    let size : line.stop - line.start ≡ n + (line.stop - (line.start + n)) = omega (arith, within, most) in
+    let size : line.stop - line.start ≡ n + (line.stop - (line.start + n)) =
+    omega (arith, within, length-take (line.stop - line.start) (drop line.start text)) in
     let past : slice_range text (line.start + n) line.stop ≡ drop n whole =
     sym (ap (λ k. drop n (take k (drop line.start text))) size
     ∙ (drop-take n (line.stop - (line.start + n)) (drop line.start text)
@@ -255,11 +235,10 @@ keeps_task : (bytes : List ℕ) (k : ℕ) → 4 ≤ k → slice_index bytes k �
 keeps_task bytes k far e =
     let m = k - 3 in
     let place : 3 + m ≡ k = omega (arith, far) in
-    let inside = byte_within bytes k e in
     let rest = drop 3 bytes in
     let stops : is_task_space (slice_index rest m) ≡ false =
     ap is_task_space (get_or-drop 3 bytes m 0 ∙ (ap (λ n. get_or bytes n 0) place ∙ e)) in
-    let size = no_longer is_task_space m rest (omega (arith, inside, far, length-drop 3 bytes)) stops in
+    let size = no_longer is_task_space m rest (omega (arith, byte_within bytes k e, far, length-drop 3 bytes)) stops in
     let cut : drop 3 (take k bytes) ≡ take m rest = ap (λ n. drop 3 (take n bytes)) (sym place) ∙ drop-take 3 m bytes in
     record {
       within = omega (arith, size, prefix_len-le-length is_task_space (take m rest), length-take m rest, place);
@@ -306,8 +285,7 @@ task_before_brace l braces done marker e =
     let k = braces.opening - l.left.scanned in
     let n = task_length bytes in
     let keeps = keeps_task bytes k (past_marker bytes done k (has_marker bytes done marker) e) e in
-    let within = keeps.within in
-    let left : k ≡ n + (braces.opening - (l.left.scanned + n)) = omega (arith, within) in
+    let left : k ≡ n + (braces.opening - (l.left.scanned + n)) = omega (arith, keeps.within) in
     record {
       same = ap (read_to l n) (sym (ap (λ m. drop n (take m bytes)) left
           ∙ drop-take n (braces.opening - (l.left.scanned + n)) bytes))
@@ -340,13 +318,16 @@ cut_line text line source (Some braces) is e =
     let k = braces.opening - line.start in
     let begins = is.start in
     let same : k ≡ braces.opening - source.left.scanned = ap (λ n. braces.opening - n) begins in
-    let inside = byte_within source.left.bytes (braces.opening - source.left.scanned) e in
-    let size = ap length is.bytes in
-    let most = length-take (line.stop - line.start) (drop line.start text) in
     record {
       start = is.start;
       bytes = sym (take-take k (line.stop - line.start) (drop line.start text)
-          (omega (arith, inside, size, most, same)))
+          (omega (
+            arith,
+            byte_within source.left.bytes (braces.opening - source.left.scanned) e,
+            ap length is.bytes,
+            length-take (line.stop - line.start) (drop line.start text),
+            same,
+          )))
           ∙ (ap (take k) is.bytes ∙ ap (λ n. take n source.left.bytes) same);
       next = is.next;
     }

@@ -1,39 +1,52 @@
--- The items of a paragraph's lines, one line after the other.
+-- The items of a paragraph's lines, one line after the other, and the braces at the end of a heading's lines.
 use Rattle.std.proofs.Common.{◌≡◌, ℕ, zero, suc, ◌+◌, ◌-◌, ◌<◌, ◌≤◌, Bool, true, false, List, [], ◌∷◌, ◌++◌, Option}
-use Rattle.std.proofs.Common.{Some, None, length, drop, refl, sym, ap, ◌∙◌, subst, arith, append_assoc}
-use Rattle.std.specs.Prelude.{get_or, slice_get, ◌==◌, if◌then◌else◌}
+use Rattle.std.proofs.Common.{Some, None, length, drop, refl, sym, ap, ◌∙◌, arith, append_assoc, take, slice_range}
+use Rattle.std.proofs.Common.{subst}
+use Rattle.std.specs.Prelude.{get_or, slice_get, ◌==◌, if◌then◌else◌, slice_index}
 use Rattle.std.proofs.lemmas.Bool.Decides.{nat_tests}
-use Rattle.std.proofs.lemmas.List.{length-take}
+use Rattle.std.proofs.lemmas.List.{length-take, get_or-take, length-drop}
 use Rattle.std.specs.List.{suffix_len}
-use Rattle.std.specs.Option.{option_map_or}
+use Rattle.std.specs.Option.{option_map_or, is_some, option_map}
 use Rattle.markdown_items.specs.ContentItems.{content_items}
 use Rattle.markdown_lines.specs.LineBytes.{without_end}
 use Rattle.markdown_lines.specs.Lines.{is_space_or_tab}
 use Rattle.markdown_base.specs.Forest.{Forest}
-use Rattle.markdown_base.specs.declared.item.ItemBody.TheVariants as body
 use Rattle.markdown_builder.specs.BuilderView.{BuilderView, with_items}
 use Rattle.markdown_builder.specs.Shown.{Shown, plain_item}
 use Rattle.markdown_items.proofs.RestOfLineLemmas.{more_items, no_items}
 use Rattle.markdown_items.specs.LineItems.{item_syntax}
 use Rattle.markdown_base.specs.Source.{Source}
 use Rattle.markdown_lines.specs.SourceLines.{SourceLine, without_empty}
-use Rattle.markdown_lines.specs.TaskMarkers.{past_task}
+use Rattle.markdown_lines.specs.TaskMarkers.{past_task, task_marker, task_read}
 use Rattle.markdown_lines.specs.declared.braces.Braces.{Braces}
 use Rattle.markdown_lines.specs.declared.held_line.HeldLine.{HeldLine}
-use Rattle.markdown_block_rules.specs.BlockRules.{before_braces, cut_before_braces}
+use Rattle.markdown_block_rules.specs.BlockRules.{before_braces, cut_before_braces, items_after_task, last_braces}
+use Rattle.markdown_block_rules.specs.BlockRules.{paragraph_items}
 use Rattle.markdown_block_rules.specs.LineContents.{lines_items}
-use Rattle.markdown_plain.proofs.ParagraphLinesLemmas.{cut_after_task, no_content, none_left, on_false, some_left}
-use Rattle.markdown_base.specs.declared.syntax.Syntax.{Syntax}
-use Rattle.markdown_plain.specs.Fitting.{GoesOn}
+use Rattle.markdown_plain.proofs.ParagraphLinesLemmas.{cut_after_task, no_content, on_false, some_left}
+use Rattle.markdown_plain.proofs.ParagraphLinesLemmas.{if_some, marker_before_brace, range_byte}
+use Rattle.markdown_plain.proofs.LeafTreesLemmas.{no_text, texts_after}
+use Rattle.markdown_plain.specs.Fitting.{extended, stepped, BracesStand}
+use Rattle.markdown_plain.specs.LeafTrees.{HasItems}
+use Rattle.markdown_plain.specs.ParagraphSteps.{Appends, AppendsWhole}
 use Rattle.markdown_plain.specs.HeldSources.{AreTextLines, IsTextLine}
-use Rattle.markdown_plain.specs.ParagraphItems.{IsLeft, OpenInLast}
-use Rattle.markdown_plain.specs.ParagraphItems.{after_task, line_or_nothing, task_items, text_items}
+use Rattle.markdown_plain.specs.ParagraphItems.{IsLeft, OpenInLast, after_task, line_or_nothing, task_items, text_items}
+use Rattle.markdown_plain.specs.ParagraphItems.{BeginWithTask, heading_braces}
 use Rattle.markdown_plain.specs.declared.paragraph.Ends.{Ends}
+use Rattle.std.specs.Str.{IsCharBoundary, IsUtf8}
+use Rattle.std.proofs.lemmas.Bool.{true≢false}
+use Rattle.std.proofs.lemmas.Option.{same_Some}
+use Rattle.std.proofs.lemmas.Str.{IsCharBoundary-after_ascii, IsCharBoundary-before_ascii}
+use Rattle.markdown_base.specs.declared.syntax.Syntax.{Syntax}
+use Rattle.markdown_base.specs.declared.tag.HeadingLevel.{HeadingLevel}
+use Rattle.markdown_lines.specs.declared.line.Line.{Line}
+use Rattle.markdown_lines.specs.HeadingAttributes.{braces_from, braces_in, braces_to, close_brace, is_enclosed}
+use Rattle.markdown_lines.specs.HeadingAttributes.{open_brace}
+use Rattle.markdown_plain.specs.Closable.{HasBraces}
+use Rattle.markdown_plain.specs.Paragraphs.{first_task}
+use Rattle.markdown_base.specs.declared.item.ItemBody.TheVariants as body
 
 -- ---- the items of a line, and those of the lines after it
-
-on_true : {A : Type 0} (test : Bool) (x y : A) → test ≡ true → (if test then x else y) ≡ x
-on_true test x y holds = ap (λ b. if b then x else y) holds
 
 -- the items of some lines, of which nothing may be left of the first
 abbrev items_of : Source → List SourceLine → List Shown
@@ -46,31 +59,27 @@ empty_or_not (b ∷ bytes) P none some = some (omega arith)
 is_none : (n : ℕ) → n ≡ 0 → (n == 0) ≡ true
 is_none n none = grind (arith, nat_tests, none)
 
-is_some : (n : ℕ) → 0 < n → (n == 0) ≡ false
-is_some n some = grind (arith, nat_tests, some)
+is_positive : (n : ℕ) → 0 < n → (n == 0) ≡ false
+is_positive n some = grind (arith, nat_tests, some)
 
 last_or_nothing : (s : Source) (l : SourceLine) → items_of s (without_empty (l ∷ [])) ≡ items_of s (l ∷ [])
-last_or_nothing s l = empty_or_not l.left.bytes (items_of s (without_empty (l ∷ [])) ≡ items_of s (l ∷ []))
-    (λ none. ap (items_of s) (on_true (length l.left.bytes == 0) [] (l ∷ []) (is_none _ none)) ∙ sym (nothing none))
-    (λ some. ap (items_of s) (on_false (length l.left.bytes == 0) [] (l ∷ []) (is_some _ some)))
+last_or_nothing s l =
+    empty_or_not l.left.bytes (items_of s (without_empty (l ∷ [])) ≡ items_of s (l ∷ []))
+    (λ none. rw (is_none _ none) (sym (nothing none))) (λ some. rw (is_positive _ some) refl)
   where
     nothing : length l.left.bytes ≡ 0 → items_of s (l ∷ []) ≡ []
     nothing none =
         let short : length (without_end is_space_or_tab l.left.bytes) ≡ 0 =
         omega (arith, none, length-take (length l.left.bytes - suffix_len is_space_or_tab l.left.bytes) l.left.bytes) in
         ap (content_items s.text (item_syntax s.syntax) l.left.scanned)
-        (ap (λ n. l.left.scanned + n) short ∙ omega arith)
-        ∙ no_content s.text (item_syntax s.syntax) l.left.scanned
+        (ap (λ n. l.left.scanned + n) short ∙ omega arith) ∙ no_content s.text (item_syntax s.syntax) l.left.scanned
 
 more_or_nothing : (s : Source) (l m : SourceLine) (lines : List SourceLine)
     → items_of s (without_empty (l ∷ m ∷ lines)) ≡ line_or_nothing s l ++ items_of s (m ∷ lines)
 more_or_nothing s l m lines =
     empty_or_not l.left.bytes
     (items_of s (without_empty (l ∷ m ∷ lines)) ≡ line_or_nothing s l ++ items_of s (m ∷ lines))
-    (λ none. ap (items_of s) (on_true (length l.left.bytes == 0) (m ∷ lines) (l ∷ m ∷ lines) (is_none _ none))
-    ∙ sym (ap (λ items. items ++ items_of s (m ∷ lines)) (none_left s l none)))
-    (λ some. ap (items_of s) (on_false (length l.left.bytes == 0) (m ∷ lines) (l ∷ m ∷ lines) (is_some _ some))
-    ∙ sym (ap (λ items. items ++ items_of s (m ∷ lines)) (some_left s l some)))
+    (λ none. rw (is_none _ none) refl) (λ some. rw (is_positive _ some) refl)
 
 -- the last line, after its task marker
 split_last : (s : Source) (task : Option Bool) (l : SourceLine)
@@ -102,25 +111,23 @@ open_nowhere : (braces : Option Braces) → OpenInLast braces []
 open_nowhere None = tt
 open_nowhere (Some braces) = tt
 
-pub last_line_left : (s : Source) (task : Option Bool) (braces : Option Braces) (l : SourceLine)
-    (now mid after all : List (Forest Shown)) → IsLeft s (record { task = task; braces = braces }) (l ∷ []) now all
-    → mid ≡ with_items now (task_items task l)
-    → after ≡ with_items mid (lines_items s.text (item_syntax s.syntax)
-    (cut_before_braces braces (after_task task l) ∷ []))
-    → IsLeft s (record { task = None; braces = braces }) [] after all
-last_line_left s task braces l now mid after all left marked added = record {
-  fit = record { some = tt; task = tt; braces = open_nowhere braces };
-  rest = no_items after
-      ∙ (added
-      ∙ (ap (λ ls. with_items ls (items_of s (cut_before_braces braces (after_task task l) ∷ []))) marked
-      ∙ (more_items now (task_items task l) (items_of s (cut_before_braces braces (after_task task l) ∷ []))
-      ∙ (ap (λ m. with_items now (task_items task l ++ items_of s (m ∷ [])))
-      (cut_after_task task braces l left.fit.task left.fit.braces)
-      ∙ (ap (λ items. with_items now
-      (items ++ items_of s (after_task task (cut_before_braces braces l) ∷ [])))
-      (sym (same_task_items task braces l))
-      ∙ (sym (ap (with_items now) (split_last s task (cut_before_braces braces l))) ∙ left.rest))))));
-}
+pub last_line_left : {s : Source} {ends : Ends} {l : SourceLine} {now : BuilderView} {all : List (Forest Shown)}
+    → IsLeft s ends (l ∷ []) now all → (mid after : BuilderView) → HasItems now mid (task_items ends.task l)
+    → HasItems mid after (items_of s (cut_before_braces ends.braces (after_task ends.task l) ∷ []))
+    → IsLeft s (record ends { task = None }) [] after all
+last_line_left {s} {ends} {l} {now} left mid after marked added =
+    let task = ends.task in
+    let braces = ends.braces in
+    let parts = more_items now.levels (task_items task l)
+    (items_of s (cut_before_braces braces (after_task task l) ∷ [])) in
+    let cut = cut_after_task task braces l left.fit.task left.fit.braces in
+    let split = split_last s task (cut_before_braces braces l) in
+    record {
+      fit = record { some = tt; task = tt; braces = open_nowhere braces };
+      over = λ none. absurd (none refl);
+      rest = no_items after.levels ∙ (added
+          ∙ rw (marked, parts, cut, ← same_task_items task braces l, ← split) left.rest);
+    }
 
 -- the lines behind another are some, too, before the braces
 record StaySome (braces : Option Braces) (m : SourceLine) (lines : List SourceLine) : Type 0 where
@@ -137,30 +144,23 @@ open_later : (braces : Option Braces) (l m : SourceLine) (lines : List SourceLin
 open_later None l m lines e = tt
 open_later (Some braces) l m lines e = e
 
-pub broken_line_left : (s : Source) (task : Option Bool) (braces : Option Braces) (l m : SourceLine)
-    (lines : List SourceLine) (now mid after all : List (Forest Shown))
-    → IsLeft s (record { task = task; braces = braces }) (l ∷ m ∷ lines) now all
-    → mid ≡ with_items now (task_items task l)
-    → after ≡ with_items mid (line_or_nothing s (after_task task l))
-    → IsLeft s (record { task = None; braces = braces }) (m ∷ lines) after all
-broken_line_left s task braces l m lines now mid after all left marked added =
-    let stay = stay_some braces m lines in
+pub broken_line_left : {s : Source} {ends : Ends} {l m : SourceLine} {lines : List SourceLine}
+    {now mid after : BuilderView} {all : List (Forest Shown)} → IsLeft s ends (l ∷ m ∷ lines) now all
+    → HasItems now mid (task_items ends.task l) → AppendsWhole mid after (line_or_nothing s (after_task ends.task l))
+    → IsLeft s (record ends { task = None }) (m ∷ lines) after all
+broken_line_left {s} {ends} {l} {m} {lines} {now} {mid} {after} left marked added =
+    let task = ends.task in
+    let stay = stay_some ends.braces m lines in
     let line = line_or_nothing s (after_task task l) in
     let others = items_of s (stay.first ∷ stay.more) in
+    let first = more_items now.levels (task_items task l) line in
+    let all = more_items now.levels (task_items task l ++ line) others in
+    let split = split_more s task l stay.first stay.more left.fit.some.0 in
     record {
-      fit = record {
-        some = left.fit.some.1;
-        task = tt;
-        braces = open_later braces l m lines left.fit.braces;
-      };
-      rest = ap (λ ls. with_items after (text_items s None ls)) stay.are
-          ∙ (ap (λ ls. with_items ls others) added
-          ∙ (ap (λ ls. with_items (with_items ls line) others) marked
-          ∙ (ap (λ ls. with_items ls others) (more_items now (task_items task l) line)
-          ∙ (more_items now (task_items task l ++ line) others
-          ∙ (ap (with_items now) (append_assoc (task_items task l) line others
-          ∙ (sym (split_more s task l stay.first stay.more left.fit.some.0)
-          ∙ sym (ap (λ ls. text_items s task (l ∷ ls)) stay.are))) ∙ left.rest)))));
+      fit = record { some = left.fit.some.1; task = tt; braces = open_later ends.braces l m lines left.fit.braces };
+      over = λ some. added.over;
+      rest = rw (stay.are, added.items, marked, first, all, append_assoc (task_items task l) line others, ← split)
+          (rw stay.are at left.rest);
     }
 
 -- ---- lines that are taken in order
@@ -193,13 +193,6 @@ got [] number other less = absurd (omega (arith, less))
 got (first ∷ lines) zero other less = refl
 got (first ∷ lines) (suc number) other less = got lines number other (omega (arith, less))
 
-pub as_many : (text : List ℕ) (lines : List HeldLine) (sources : List SourceLine) → AreTextLines text lines sources
-    → length sources ≡ length lines
-as_many text [] [] are = refl
-as_many text [] (source ∷ sources) are = absurd are
-as_many text (line ∷ lines) [] are = absurd are
-as_many text (line ∷ lines) (source ∷ sources) are = ap suc (as_many text lines sources are.1)
-
 pub none_behind : (sources : List SourceLine) (number : ℕ) → length sources ≤ number → drop number sources ≡ []
 none_behind [] zero most = refl
 none_behind [] (suc number) most = refl
@@ -219,33 +212,242 @@ some_behind (source ∷ sources) (suc number) less =
     record { first = rest.first; more = rest.more; are = rest.are }
 
 -- once no line is left
-pub nothing_left : (s : Source) (ends : Ends) (lines : List SourceLine) (now all : List (Forest Shown)) → lines ≡ []
-    → IsLeft s ends lines now all → now ≡ all
-nothing_left s ends lines now all none left =
-    sym (no_items now)
-    ∙ (sym (ap (λ ls. with_items now (text_items s ends.task (before_braces ends.braces ls))) none) ∙ left.rest)
+pub nothing_left : {s : Source} {ends : Ends} {lines : List SourceLine} {now : BuilderView} {all : List (Forest Shown)}
+    → lines ≡ [] → IsLeft s ends lines now all → now.levels ≡ all
+nothing_left {s} {ends} {lines} {now} none left =
+    sym (no_items now.levels)
+    ∙ (sym (ap (λ ls. with_items now.levels (text_items s ends.task (before_braces ends.braces ls))) none) ∙ left.rest)
 
--- what is left of lines of the same text, with the same task marker
-pub left_of_same : (text other : List ℕ) (syntax : Syntax) (task now_task : Option Bool) (braces : Option Braces)
-    (lines : List SourceLine) (now all : List (Forest Shown)) → text ≡ other → task ≡ now_task
-    → IsLeft (record { text = text; syntax = syntax }) (record { task = task; braces = braces }) lines now all
-    → IsLeft (record { text = other; syntax = syntax }) (record { task = now_task; braces = braces }) lines now all
-left_of_same text other syntax task now_task braces lines now all same same_task left =
-    subst (λ t. IsLeft (record { text = other; syntax = syntax })
-    (record { task = t; braces = braces }) lines now all)
-    same_task (subst (λ t. IsLeft (record { text = t; syntax = syntax }) (record { task = task; braces = braces })
-    lines now all) same left)
+-- ---- items that are appended
 
--- more was appended, and then more still
-pub goes_on_twice : (old mid new : BuilderView) (to further end : ℕ) → GoesOn old mid to → GoesOn mid new further
-    → further ≡ end → GoesOn old new end
-goes_on_twice old mid new to further end first second same =
-    second
-    ∙ (ap (λ (b : BuilderView). record b { at = further; run = new.run; levels = new.levels; texts = new.texts }) first
-    ∙ ap (λ n. record old { at = n; run = new.run; levels = new.levels; texts = new.texts }) same)
+-- a step appends none
+pub step_appends : {old new : BuilderView} {to : ℕ} → new ≡ stepped old to → Appends old new to
+step_appends {old} {new} e =
+    record { goes_on = rw e refl; texts = no_text old new (ap (λ (b : BuilderView). b.texts) e) }
+
+-- one item
+pub item_appends : {old new : BuilderView} {levels : List (Forest Shown)} {to : ℕ} → new ≡ extended old levels to
+    → Appends old new to
+item_appends {old} {new} e =
+    record { goes_on = rw e refl; texts = no_text old new (ap (λ (b : BuilderView). b.texts) e) }
+
+-- more were appended, and then more still
+pub appends_twice : {old mid new : BuilderView} {to end : ℕ} → Appends old mid to → Appends mid new end
+    → Appends old new end
+appends_twice {old} {mid} {new} {to} {end} first second = record {
+  goes_on = second.goes_on
+      ∙ ap (λ (b : BuilderView). record b { at = end; run = new.run; levels = new.levels; texts = new.texts })
+      first.goes_on;
+  texts = texts_after old mid new first.texts second.texts;
+}
 
 pub any_default : (lines : List HeldLine) (number : ℕ) (one other : HeldLine) → number < length lines
     → get_or lines number other ≡ get_or lines number one
 any_default [] number one other less = absurd (omega (arith, less))
 any_default (first ∷ lines) zero one other less = refl
 any_default (first ∷ lines) (suc number) one other less = any_default lines number one other (omega (arith, less))
+
+-- ---- where braces are
+
+taken_within : (n : ℕ) (bytes : List ℕ) (k byte : ℕ) → 0 < byte → slice_index (take n bytes) k ≡ byte
+    → k < length (take n bytes)
+taken_within n bytes k byte some e = within (take n bytes) k e
+  where
+    within : (xs : List ℕ) (k : ℕ) → slice_index xs k ≡ byte → k < length xs
+    within [] k e = absurd (omega (arith, e, some))
+    within (x ∷ xs) zero e = omega arith
+    within (x ∷ xs) (suc k) e = let more = within xs k e in omega (arith, more)
+
+-- a byte of the first ones
+record IsByte (bytes : List ℕ) (k byte : ℕ) : Type 0 where
+  less : k < length bytes
+  is : slice_index bytes k ≡ byte
+
+byte_of : (n : ℕ) (bytes : List ℕ) (k byte : ℕ) → 0 < byte → slice_index (take n bytes) k ≡ byte → IsByte bytes k byte
+byte_of n bytes k byte some e =
+    let inside = taken_within n bytes k byte some e in
+    let size = length-take n bytes in
+    record {
+      less = omega (arith, inside, size);
+      is = sym (get_or-take n bytes k 0 (omega (arith, inside, size))) ∙ e;
+    }
+
+is_byte : (n m : ℕ) → (n == m) ≡ true → n ≡ m
+is_byte n m e = grind (arith, nat_tests, e)
+
+record AreBraces (bytes : List ℕ) (braces : Braces) : Type 0 where
+  opens : IsByte bytes braces.opening open_brace
+  closes : IsByte bytes braces.closing close_brace
+
+opened_at : (close : ℕ) (bytes : List ℕ) (braces : Braces) → IsByte bytes close close_brace
+    → braces_to close bytes ≡ Some braces → AreBraces bytes braces
+opened_at close bytes braces closes e =
+    let inner = take close bytes in
+    let n = length inner - suffix_len is_enclosed inner in
+    let last = length (take n inner) - 1 in
+    let found = if_some (slice_index (take n inner) last == open_brace)
+    (Some (record { opening = last; closing = close })) braces e in
+    let inside = byte_of n inner last open_brace (omega arith) (is_byte _ open_brace found.0) in
+    subst (AreBraces bytes) (same_Some (record { opening = last; closing = close }) braces found.1)
+    (record { opens = byte_of close bytes last open_brace (omega arith) inside.is; closes = closes })
+
+braces_are : (bytes : List ℕ) (braces : Braces) → braces_in bytes ≡ Some braces → AreBraces bytes braces
+braces_are bytes braces e =
+    let n = length bytes - suffix_len is_space_or_tab bytes in
+    let last = length (take n bytes) - 1 in
+    let found = if_some (slice_index (take n bytes) last == close_brace) (braces_to last bytes) braces e in
+    opened_at last bytes braces (byte_of n bytes last close_brace (omega arith) (is_byte _ close_brace found.0)) found.1
+
+-- ---- characters around braces
+
+ascii_at : (text : List ℕ) (start stop k byte : ℕ) → IsUtf8 text → byte < 128
+    → IsByte (slice_range text start stop) k byte
+    → IsCharBoundary text (start + k + 1) × IsCharBoundary text (start + k)
+ascii_at text start stop k byte utf8 low is =
+    let most = length-take (stop - start) (drop start text) in
+    let inside : k < stop - start = omega (arith, is.less, most) in
+    let here : start + k < length text = omega (arith, is.less, most, length-drop start text) in
+    let same = sym (range_byte text start stop k inside) ∙ is.is in
+    let small : get_or text (start + k) 0 < 128 = omega (arith, same, low) in (
+      IsCharBoundary-after_ascii text (start + k) utf8 here small,
+      IsCharBoundary-before_ascii text (start + k) here small,
+    )
+
+pub braces_stand : (text : List ℕ) (start stop : ℕ) → IsUtf8 text
+    → BracesStand text (option_map (braces_from start) (braces_in (slice_range text start stop)))
+braces_stand text start stop utf8 = of_found (braces_in (slice_range text start stop)) refl
+  where
+    of_found : (found : Option Braces) → braces_in (slice_range text start stop) ≡ found
+        → BracesStand text (option_map (braces_from start) found)
+    of_found None e = tt
+    of_found (Some braces) e =
+        let are = braces_are (slice_range text start stop) braces e in (
+          (ascii_at text start stop braces.opening open_brace utf8 (omega arith) are.opens).0,
+          (ascii_at text start stop braces.closing close_brace utf8 (omega arith) are.closes).1,
+        )
+
+-- braces open in their line, and between characters
+pub braces_within : (text : List ℕ) (line : HeldLine) → IsUtf8 text
+    → HasBraces text (option_map (braces_from line.start) (braces_in (slice_range text line.start line.stop))) line
+braces_within text line utf8 = of_found (braces_in bytes) refl
+  where
+    bytes : List ℕ
+    bytes = slice_range text line.start line.stop
+
+    of_found : (found : Option Braces) → braces_in bytes ≡ found
+        → HasBraces text (option_map (braces_from line.start) found) line
+    of_found None e = tt
+    of_found (Some braces) e =
+        let are = braces_are bytes braces e in
+        let most = length-take (line.stop - line.start) (drop line.start text) in (
+          omega (arith, are.opens.less, most),
+          (ascii_at text line.start line.stop braces.opening open_brace utf8 (omega arith) are.opens).1,
+        )
+
+-- ---- the last line
+
+last_of : (syntax : Syntax) (text : List ℕ) (lines : List HeldLine) (sources : List SourceLine) (from k : ℕ)
+    (line : HeldLine) → AreTextLines text lines sources → from < length lines → k + 1 ≡ length lines
+    → slice_get lines k ≡ Some line → last_braces syntax (drop from sources) ≡ (if syntax.attributes
+    then option_map (braces_from line.start) (braces_in (slice_range text line.start line.stop)) else None)
+last_of syntax text [] sources from k line are less size e = absurd (omega (arith, less))
+last_of syntax text (first ∷ lines) [] from k line are less size e = absurd are
+last_of syntax text (first ∷ []) (source ∷ []) zero zero line are less size e =
+    let is = subst (λ l. IsTextLine text l source) (same_Some first line e) are.0 in
+    ap (λ n. if syntax.attributes then option_map (braces_from n) (braces_in source.left.bytes) else None)
+    (sym is.start)
+    ∙ ap (λ bytes. if syntax.attributes then option_map (braces_from line.start) (braces_in bytes) else None)
+    (sym is.bytes)
+last_of syntax text (first ∷ []) (source ∷ other ∷ sources) from k line are less size e = absurd are.1
+last_of syntax text (first ∷ []) (source ∷ []) (suc from) k line are less size e = absurd (omega (arith, less))
+last_of syntax text (first ∷ []) (source ∷ []) zero (suc k) line are less size e = absurd (omega (arith, size))
+last_of syntax text (first ∷ second ∷ lines) (source ∷ []) from k line are less size e = absurd are.1
+last_of syntax text (first ∷ second ∷ lines) (source ∷ other ∷ sources) from zero line are less size e =
+    absurd (omega (arith, size))
+last_of syntax text (first ∷ second ∷ lines) (source ∷ other ∷ sources) zero (suc k) line are less size e =
+    last_of syntax text (second ∷ lines) (other ∷ sources) zero k line are.1 (omega arith) (omega (arith, size)) e
+last_of syntax text (first ∷ second ∷ lines) (source ∷ other ∷ sources) (suc from) (suc k) line are less size e =
+    last_of syntax text (second ∷ lines) (other ∷ sources) from k line are.1 (omega (arith, less))
+    (omega (arith, size)) e
+
+-- ---- what is at the ends of the lines
+
+line_open : (test : Bool) (l : SourceLine) (found : Option Braces) → braces_in l.left.bytes ≡ found
+    → OpenInLast (if test then option_map (braces_from l.left.scanned) found else None) (l ∷ [])
+line_open true l None e = tt
+line_open true l (Some braces) e =
+    let are = braces_are l.left.bytes braces e in
+    let place : (l.left.scanned + braces.opening) - l.left.scanned ≡ braces.opening = omega arith in
+    ap (λ n. get_or l.left.bytes n 0) place ∙ are.opens.is
+line_open false l found e = tt
+
+open_more : (braces : Option Braces) (l m : SourceLine) (lines : List SourceLine) → OpenInLast braces (m ∷ lines)
+    → OpenInLast braces (l ∷ m ∷ lines)
+open_more None l m lines e = tt
+open_more (Some braces) l m lines e = e
+
+last_open : (syntax : Syntax) (lines : List SourceLine) → OpenInLast (last_braces syntax lines) lines
+last_open syntax [] = tt
+last_open syntax (l ∷ []) = line_open syntax.attributes l (braces_in l.left.bytes) refl
+last_open syntax (l ∷ m ∷ lines) = open_more (last_braces syntax (m ∷ lines)) l m lines
+    (last_open syntax (m ∷ lines))
+
+pub heading_open : (syntax : Syntax) (heading : Option (HeadingLevel × Line)) (lines : List SourceLine)
+    → OpenInLast (heading_braces syntax heading lines) lines
+heading_open syntax None lines = tt
+heading_open syntax (Some heading) lines = last_open syntax lines
+
+pub begin_first : (s : Source) (marked : ℕ) (lines : List SourceLine) (task : Option Bool)
+    → task ≡ first_task s marked lines → BeginWithTask task lines
+begin_first s marked [] task e = tt
+begin_first s marked (l ∷ lines) None e = tt
+begin_first s marked (l ∷ lines) (Some done) e =
+    let read = if_some (l.next == marked) (task_read s.syntax l.left.bytes) done (sym e) in
+    (if_some s.syntax.tasks (task_marker l.left.bytes) done read.1).1
+
+-- no line is cut off without braces
+pub not_cut : (lines : List SourceLine) → before_braces None lines ≡ lines
+not_cut [] = refl
+not_cut (l ∷ []) = refl
+not_cut (l ∷ m ∷ lines) = ap (λ (ls : List SourceLine). l ∷ ls) (not_cut (m ∷ lines))
+
+-- the task marker is read off the first line, whether it is cut off at a `{` or not
+pub items_before_braces : (s : Source) (marked : ℕ) (braces : Option Braces) (lines : List SourceLine)
+    → OpenInLast braces lines → text_items s (first_task s marked lines) (before_braces braces lines)
+    ≡ paragraph_items s marked (before_braces braces lines)
+items_before_braces s marked braces [] e = refl
+items_before_braces s marked None (l ∷ []) e = refl
+items_before_braces s marked (Some braces) (l ∷ []) e =
+    let k = braces.opening - l.left.scanned in
+    let cut : SourceLine = record l { left = record l.left { bytes = take k l.left.bytes } } in
+    ap (λ task. items_after_task s cut [] (if l.next == marked then (if s.syntax.tasks then task else None) else None))
+    (sym (marker_before_brace l.left.bytes k e))
+items_before_braces s marked braces (l ∷ m ∷ lines) e = refl
+
+-- there are no braces where no attributes are read
+none_last : (syntax : Syntax) (lines : List SourceLine) → syntax.attributes ≡ false → last_braces syntax lines ≡ None
+none_last syntax [] unread = refl
+none_last syntax (l ∷ []) unread =
+    on_false syntax.attributes (option_map (braces_from l.left.scanned) (braces_in l.left.bytes)) None unread
+none_last syntax (l ∷ m ∷ lines) unread = none_last syntax (m ∷ lines) unread
+
+pub none_read : (syntax : Syntax) (heading : Option (HeadingLevel × Line)) (lines : List SourceLine)
+    → syntax.attributes ≡ false → None ≡ heading_braces syntax heading lines
+none_read syntax None lines unread = refl
+none_read syntax (Some heading) lines unread = sym (none_last syntax lines unread)
+
+pub none_of_paragraph : (syntax : Syntax) (heading : Option (HeadingLevel × Line)) (lines : List SourceLine)
+    → heading ≡ None → None ≡ heading_braces syntax heading lines
+none_of_paragraph syntax heading lines e = sym (ap (λ h. heading_braces syntax h lines) e)
+
+-- the braces of the last line are those of the heading
+pub heading_last : (syntax : Syntax) (heading : Option (HeadingLevel × Line)) (text : List ℕ) (lines : List HeldLine)
+    (sources : List SourceLine) (from : ℕ) (line : HeldLine) → is_some heading ≡ true → syntax.attributes ≡ true
+    → AreTextLines text lines sources → from < length lines → Some line ≡ slice_get lines (length lines - 1)
+    → option_map (braces_from line.start) (braces_in (slice_range text line.start line.stop))
+    ≡ heading_braces syntax heading (drop from sources)
+heading_last syntax None text lines sources from line some read are less there = absurd (true≢false (sym some))
+heading_last syntax (Some heading) text lines sources from line some read are less there =
+    sym (last_of syntax text lines sources from (length lines - 1) line are less (omega (arith, less)) (sym there)
+    ∙ ap (λ test. if test
+    then option_map (braces_from line.start) (braces_in (slice_range text line.start line.stop)) else None) read)

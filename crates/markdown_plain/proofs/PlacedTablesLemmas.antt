@@ -1,11 +1,12 @@
 -- What the pass has placed with the delimiter row of a table: the table, which is open, after the lines before its
 -- head.
-use Rattle.std.proofs.Common.{◌≡◌, ℕ, ◌≤◌, Bool, true, false, not, ◌&&◌, ◌||◌, List, [], ◌∷◌, ◌++◌, Option, Some, None}
-use Rattle.std.proofs.Common.{map, arith, refl, sym, ap, ◌∙◌, subst, append-nil, true≢false}
+use Rattle.std.proofs.Common.{◌≡◌, ℕ, ◌≤◌, true, false, not, ◌&&◌, ◌||◌, List, [], ◌∷◌, ◌++◌, Option, Some, None, map}
+use Rattle.std.proofs.Common.{arith, refl, sym, ap, ◌∙◌, subst, append-nil, true≢false}
 use Rattle.std.specs.Prelude.{if◌then◌else◌}
-use Rattle.std.specs.Option.{is_some, option_map}
+use Rattle.std.specs.Option.{option_map}
 use Rattle.std.specs.Str.{IsCharBoundary}
 use Rattle.std.proofs.Math.Bool.{or-false}
+use Rattle.std.proofs.lemmas.Bool.{not-false}
 use Rattle.markdown_base.specs.Forest.{Forest, nil, node}
 use Rattle.markdown_base.specs.declared.tag.Alignment.{Alignment}
 use Rattle.markdown_builder.specs.TreeLevels.{followed_by}
@@ -18,21 +19,20 @@ use Rattle.markdown_block_rules.specs.BlockGrowth as was
 use Rattle.markdown_block_rules.specs.BlockGrowth.{Block, goes_on, is_nil, with_line}
 use Rattle.markdown_block_rules.specs.BlockRules.{are_separated, ends_blank, hold_separated, is_blank_block, is_loose}
 use Rattle.markdown_block_rules.specs.BlockRules.{lines_end as last_next}
-use Rattle.markdown_block_rules.specs.TableLines.{alignments_for, further_line, hold_fitting, reads_tables}
+use Rattle.markdown_block_rules.specs.TableLines.{alignments_for, reads_tables}
 use Rattle.markdown_plain.specs.declared.containers.Reached as code
 use Rattle.markdown_plain.specs.declared.looseness.Looseness.{Looseness}
 use Rattle.markdown_plain.specs.declared.pass.Pass.{Pass}
-use Rattle.markdown_plain.specs.Closable.{AreAhead, HaveTask, IsReady}
 use Rattle.markdown_plain.specs.Closing.{AreItemsInLists, MayEnd}
 use Rattle.markdown_plain.specs.Frames.{AreContainers, AreNested, Frame, is_list, reached, rebuilt, touched}
-use Rattle.markdown_plain.specs.OpenLeaves.{HoldsParagraph, leaf_block}
+use Rattle.markdown_plain.specs.OpenLeaves.{leaf_block}
 use Rattle.markdown_plain.specs.Paragraphs.{has_paragraph, lines_end}
 use Rattle.markdown_plain.specs.ReachedFrames.{are_none}
 use Rattle.markdown_plain.specs.ReachedLines.{Before, IsReachedBy, blocks_before, reached_of}
 use Rattle.markdown_plain.specs.Settled.{IsLooseAs, are_loose}
 use Rattle.markdown_plain.specs.Standing.{PlacesFor, PlacesLast}
-use Rattle.markdown_plain.specs.TableHeads.{HasTable, IfParagraph, IfParagraphLast, IsLastLine, IsRowRest, IsUntabled}
-use Rattle.markdown_plain.specs.TableHeads.{before_table, begun_table}
+use Rattle.markdown_plain.specs.TableHeads.{BeginsNoTable, BeginsTable, FollowsLast, IfParagraph, IfParagraphLast}
+use Rattle.markdown_plain.specs.TableHeads.{IsUntabled, MayBeginTable, TurnsToTable, before_table, begun_table}
 use Rattle.markdown_plain.proofs.AddedTextLemmas.{loose_as_leaf}
 use Rattle.markdown_plain.proofs.BlanksKnownLemmas.{same_touched}
 use Rattle.markdown_plain.proofs.BlankStandingLemmas.{last_of, next_after}
@@ -41,13 +41,14 @@ use Rattle.markdown_plain.proofs.FramesLemmas.{goes_on_last}
 use Rattle.markdown_plain.proofs.ItemsInListsLemmas.{line_keeps}
 use Rattle.markdown_plain.proofs.LastBlocksLemmas.{open_are_containers}
 use Rattle.markdown_plain.proofs.LeafLinesLemmas.{empty_alike, open_leaf_touched}
-use Rattle.markdown_plain.proofs.LeavesInPlaceLemmas.{leaf_end}
 use Rattle.markdown_plain.proofs.LooseFramesLemmas.{closed_separated, ends_more, loose_by_last, same_last}
 use Rattle.markdown_plain.proofs.ReachedLemmas.{last_goes_on, reached_parts}
 use Rattle.markdown_plain.proofs.ReadyPlacesLemmas.{next_between, ready_last}
-use Rattle.markdown_plain.proofs.TableBeginningsLemmas.{table_some}
+use Rattle.markdown_plain.proofs.DelimiterRowsLemmas.{table_some}
 use Rattle.markdown_plain.proofs.TouchedFramesLemmas.{earlier_touched, quotes_touched}
-use Rattle.markdown_plain.proofs.UntabledLinesLemmas.{IsOpenParagraph, last_line_of, open_paragraph, untabled_line}
+use Rattle.markdown_plain.proofs.UntabledLinesLemmas.{HasLastLine, IsOpenParagraph, last_line_of, open_paragraph}
+use Rattle.markdown_plain.proofs.UntabledLinesLemmas.{untabled_line}
+use Rattle.markdown_plain.proofs.EndedLinesLemmas.{none_inside}
 
 -- ---- the definition
 
@@ -152,60 +153,58 @@ loose_with_table now frames inside b t (l ∷ before) filled also loose =
 
 -- ---- what is placed
 
-pub table_places : (s : Source) (old new : Pass) (line : Line) (found : code.Reached) (frames : List Frame)
+table_places : (s : Source) (old new : Pass) (line : Line) (reached_to : code.Reached) (frames : List Frame)
     (inside : Forest Block) (b : Block) (before : List SourceLine) (from source : SourceLine)
-    → IsReachedBy s old line found (last_of frames inside b) source
+    → IsReachedBy s old line reached_to (last_of frames inside b) source
     → (reached s frames (followed_by inside (leaf_block b)) source).inner ≡ []
     → is_blank_rest (reached s frames (followed_by inside (leaf_block b)) source).rest ≡ false
-    → MayEnd s old frames inside b (Some (before ++ from ∷ [])) → reads_tables s ≡ true
-    → new ≡ record old { placing = new.placing; lines = new.lines; tried = new.tried }
-    → new.placing.builder.text ≡ old.placing.builder.text → new.lines.items ≡ []
-    → HasTable s new.placing.builder frames inside b before from
-    (reached s frames (followed_by inside (leaf_block b)) source).rest line.next
+    → MayEnd s old frames inside b (Some (before ++ from ∷ [])) → reads_tables s ≡ true → (found : List Alignment)
+    → alignments_for s (reached s frames (followed_by inside (leaf_block b)) source).rest before from ≡ Some found
+    → TurnsToTable old new line.next found
     → PlacesFor s new line.next (with_line s (rebuilt frames (followed_by inside (leaf_block b))) source)
-table_places s old new line found frames inside b before from source by none filled may reads same text empty has =
+table_places s old new line reached_to frames inside b before from source by none filled may reads found begins turns =
+    let text = turns.text in
     let blocks = followed_by inside (leaf_block b) in
     let r = reached s frames blocks source in
     let holds = may.unended in
     let kind = holds.kind in
-    let t = begun_table from line.next has.found in
+    let t = begun_table from line.next found in
     let first = before_table inside b before in
     let now = followed_by first (leaf_block t) in
     let outer = map (touched source) frames in
     let containers = open_are_containers old.placing.builder.texts old.placing.builder.blocks frames
     holds.built.blocks in
     let whole : with_line s (rebuilt frames blocks) source ≡ rebuilt outer now =
-    table_line s frames inside b before from source has.found containers holds.built.nested none kind filled reads
-    has.begins
-    ∙ ap (λ n. rebuilt outer (followed_by first (leaf_block (begun_table from n has.found))))
+    table_line s frames inside b before from source found containers holds.built.nested none kind filled reads begins
+    ∙ ap (λ n. rebuilt outer (followed_by first (leaf_block (begun_table from n found))))
     (sym by.reaches.rest.next) in
-    let opened = open_leaf_touched source s new.placing.builder frames first false t has.opened in
+    let opened = open_leaf_touched source s new.placing.builder frames first false t
+    (turns.opened s frames inside b before from by.stands.source holds) in
     let blanks : new.blanks.items ≡ [] =
-    ap (λ (p : Pass). p.blanks.items) same ∙ by.stands.unheld holds.built.outside in
-    let at : new.placing.builder.at ≡ line.next = has.opened.end ∙ leaf_end frames first t refl in
-    let last : PlacesLast s new outer first (Some t) = (None, (refl, opened), (tt, blanks, empty)) in
+    ap (λ (p : Pass). p.blanks.items) turns.same ∙ by.stands.unheld holds.built.outside in
+    let last : PlacesLast s new outer first (Some t) = (None, (refl, opened), (tt, blanks, turns.ended)) in
     record {
       frames = outer;
       inside = first;
       last = Some t;
       places = record {
         source = ap (λ (v : List ℕ). record { text = v; syntax = new.syntax }) text
-            ∙ (ap (λ (p : Pass). record { text = old.placing.builder.text; syntax = p.syntax }) same
+            ∙ (ap (λ (p : Pass). record { text = old.placing.builder.text; syntax = p.syntax }) turns.same
             ∙ by.stands.source);
         unended = last;
         quotes = quotes_touched source line.next (sym by.is.next) frames;
         items = subst (AreItemsInLists false) whole (line_keeps s (rebuilt frames blocks) source may.items);
         loose = same_touched source new.looseness frames now
-            (subst (λ (l : Looseness). IsLooseAs l frames now) (sym (ap (λ (p : Pass). p.looseness) same))
+            (subst (λ (l : Looseness). IsLooseAs l frames now) (sym (ap (λ (p : Pass). p.looseness) turns.same))
             (loose_with_table old.looseness frames inside b t before (ap is_blank_block kind) refl by.stands.loose));
         filled = ends_more false first (leaf_block t);
-        before = subst (λ (ls : List HeldLine). lines_end ls ≤ line.next) (sym empty) (omega arith);
+        before = subst (λ (ls : List HeldLine). lines_end ls ≤ line.next) (sym turns.ended) (omega arith);
         unheld = λ _. blanks;
         earlier = earlier_touched source line.start line.next (next_after old line source by.is) frames
             by.stands.earlier;
         alone = λ metadata. absurd (true≢false (sym metadata));
         remembers = tt;
-        ready = ready_last s new outer first (Some t) line.next last empty blanks at
+        ready = ready_last s new outer first (Some t) line.next last turns.ended blanks turns.here
             (subst (λ (v : List ℕ). IsCharBoundary v line.next) (sym text)
             (next_between old.placing.builder.text line.start line by.is.utf8 by.is.from));
       };
@@ -213,10 +212,6 @@ table_places s old new line found frames inside b before from source by none fil
     }
 
 -- ---- the line that is read
-
-none_inner : (frames : List Frame) → are_none frames ≡ true → frames ≡ []
-none_inner [] none = refl
-none_inner (f ∷ frames) none = absurd (true≢false (sym none))
 
 -- a line reaches the open paragraph, where tables are read
 pub record ReachesParagraph (s : Source) (pass : Pass) (line : Line) (found : code.Reached) (before : Before)
@@ -230,109 +225,93 @@ pub record ReachesParagraph (s : Source) (pass : Pass) (line : Line) (found : co
 all_reached : (s : Source) (pass : Pass) (line : Line) (found : code.Reached) (before : Before) (source : SourceLine)
     → ReachesParagraph s pass line found before source → are_none (reached_of s before source).inner ≡ true
 all_reached s pass line found before source reaches =
-    sym reaches.by.reaches.all ∙ is_all found.all reaches.all
-  where
-    is_all : (all : Bool) → not all ≡ false → all ≡ true
-    is_all true e = refl
-    is_all false e = absurd (true≢false e)
+    sym reaches.by.reaches.all ∙ not-false found.all reaches.all
 
-row_rest : (s : Source) (pass : Pass) (line : Line) (found : code.Reached) (before : Before) (source : SourceLine)
-    → ReachesParagraph s pass line found before source
-    → IsRowRest s pass.placing.builder.text line found.position (reached_of s before source).rest
-row_rest s pass line found before source reaches =
-    let is = reaches.by.reaches in record { reads = reaches.reads; rest = is.rest; stop = is.stop }
+-- the paragraph that it follows, with its last line
+record HasLines (s : Source) (pass : Pass) (line : Line) (found : code.Reached) (frames : List Frame)
+    (inside : Forest Block) (b : Block) (source : SourceLine) : Type 0 where
+  paragraph : IsOpenParagraph s pass frames inside line.start b
+  last : HasLastLine s pass paragraph.sources
+  follows : FollowsLast s pass line found.position last.before last.last
+      (reached_of s (last_of frames inside b) source).rest
 
--- its lines are ahead of the builder, and may be placed
-lines_ahead : (s : Source) (pass : Pass) (frames : List Frame) (inside : Forest Block) (b : Block) (from : ℕ)
-    → IsReady pass from → IsOpenParagraph s pass frames inside from b
-    → AreAhead pass.placing.builder pass.lines.items
-lines_ahead s pass frames inside b from ready is = ready.closable.held is.may.unended.built.outside
+has_lines : (s : Source) (pass : Pass) (line : Line) (found : code.Reached) (frames : List Frame)
+    (inside : Forest Block) (b : Block) (source : SourceLine)
+    → ReachesParagraph s pass line found (last_of frames inside b) source
+    → HasLines s pass line found frames inside b source
+has_lines s pass line found frames inside b source reaches =
+    let by = reaches.by in
+    let paragraph = open_paragraph s pass frames inside b line.start by.stands.unended by.stands.remembers
+    reaches.some reaches.reads in
+    let last = last_line_of s pass frames inside b paragraph.sources line.start by.stands.source
+    paragraph.may.unended paragraph.remembers in
+    record {
+      paragraph = paragraph;
+      last = last;
+      follows = record {
+        head = last.head;
+        last = last.is;
+        rest = record { reads = reaches.reads; rest = by.reaches.rest; stop = by.reaches.stop };
+      };
+    }
+
+none_there : {P : Type 0} (s : Source) (pass : Pass) (line : Line) (found : code.Reached) (frames : List Frame)
+    (inside : Forest Block) (source : SourceLine)
+    → ReachesParagraph s pass line found (record { frames = frames; inside = inside; last = None }) source → P
+none_there s pass line found frames inside source reaches =
+    absurd (true≢false (sym reaches.some ∙ no_paragraph pass reaches.by.stands.unended.1))
 
 pub row_places : (s : Source) (old new : Pass) (line : Line) (found : code.Reached) (frames : List Frame)
     (inside : Forest Block) (last : Option Block) (source : SourceLine)
     → ReachesParagraph s old line found (record { frames = frames; inside = inside; last = last }) source
     → is_blank_rest (reached_of s (record { frames = frames; inside = inside; last = last }) source).rest ≡ false
-    → new ≡ record old { placing = new.placing; lines = new.lines; tried = new.tried }
-    → new.placing.builder.text ≡ old.placing.builder.text → new.lines.items ≡ []
-    → ((s : Source) (frames : List Frame) (inside : Forest Block) (b : Block) (head : HeldLine)
-    (before : List SourceLine) (from l : SourceLine) → HoldsParagraph s old frames inside b (before ++ from ∷ [])
-    → IsLastLine s old head before from → IsRowRest s old.placing.builder.text line found.position l
-    → AreAhead old.placing.builder old.lines.items
-    → HasTable s new.placing.builder frames inside b before from l line.next)
+    → BeginsTable old new line found.position
     → PlacesFor s new line.next
     (with_line s (blocks_before (record { frames = frames; inside = inside; last = last })) source)
-row_places s old new line found frames inside None source reaches filled same text empty frame =
-    let has = reaches.by.stands.unended in
-    absurd (true≢false (sym reaches.some ∙ no_paragraph old has.1))
-row_places s old new line found frames inside (Some b) source reaches filled same text empty frame =
-    let before = last_of frames inside b in
-    let by = reaches.by in
-    let open_block = open_paragraph s old frames inside b line.start by.stands.unended by.stands.remembers
-    reaches.some reaches.reads in
-    let last = last_line_of s old frames inside b open_block.sources line.start by.stands.source
-    open_block.may.unended open_block.remembers in
-    let may = subst (λ sources. MayEnd s old frames inside b (Some sources)) last.are open_block.may in
-    let table = frame s frames inside b last.head last.before last.last (reached_of s before source).rest may.unended
-    last.is (row_rest s old line found before source reaches)
-    (lines_ahead s old frames inside b line.start by.stands.ready open_block) in
-    table_places s old new line found frames inside b last.before last.last source by
-    (none_inner _ (all_reached s old line found before source reaches)) filled may reaches.reads same text empty
-    table
+row_places s old new line found frames inside None source reaches filled begins =
+    none_there s old line found frames inside source reaches
+row_places s old new line found frames inside (Some b) source reaches filled begins =
+    let lines = has_lines s old line found frames inside b source reaches in
+    let last = lines.last in
+    let may = subst (λ sources. MayEnd s old frames inside b (Some sources)) last.are lines.paragraph.may in
+    table_places s old new line found frames inside b last.before last.last source reaches.by
+    (none_inside _ (all_reached s old line found (last_of frames inside b) source reaches)) filled may reaches.reads
+    begins.found
+    (begins.fits s last.before last.last (reached_of s (last_of frames inside b) source).rest lines.follows)
+    begins.table
 
 -- a head may be read of the lines that are held back
-pub record MayBeginTable (pass : Pass) (line : Line) : Type 0 where
-  pub outside : pass.placing.builder.leaf ≡ false
-  pub ahead : AreAhead pass.placing.builder pass.lines.items
-  pub task : HaveTask pass.placing.builder.text pass.task pass.lines.items
-  pub before : lines_end pass.lines.items ≤ line.next
-  pub next : IsCharBoundary pass.placing.builder.text line.next
-
 pub row_fits : (s : Source) (old : Pass) (line : Line) (found : code.Reached) (frames : List Frame)
     (inside : Forest Block) (last : Option Block) (source : SourceLine)
     → ReachesParagraph s old line found (record { frames = frames; inside = inside; last = last }) source
     → MayBeginTable old line
-row_fits s old line found frames inside None source reaches =
-    let has = reaches.by.stands.unended in
-    absurd (true≢false (sym reaches.some ∙ no_paragraph old has.1))
+row_fits s old line found frames inside None source reaches = none_there s old line found frames inside source reaches
 row_fits s old line found frames inside (Some b) source reaches =
     let by = reaches.by in
-    let open_block = open_paragraph s old frames inside b line.start by.stands.unended by.stands.remembers
-    reaches.some reaches.reads in
-    let before = by.stands.before in
+    let paragraph = (has_lines s old line found frames inside b source reaches).paragraph in
     let next = next_after old line source by.is in
     record {
-      outside = open_block.may.unended.built.outside;
-      ahead = lines_ahead s old frames inside b line.start by.stands.ready open_block;
+      outside = paragraph.may.unended.built.outside;
+      ahead = by.stands.ready.closable.held paragraph.may.unended.built.outside;
       task = by.stands.ready.closable.task;
-      before = omega (arith, before, next);
+      before = omega (arith, by.stands.before, next);
       next = next_between old.placing.builder.text line.start line by.is.utf8 by.is.from;
     }
 
 pub row_untabled : (s : Source) (old new : Pass) (line : Line) (found : code.Reached) (frames : List Frame)
     (inside : Forest Block) (last : Option Block) (source : SourceLine)
     → ReachesParagraph s old line found (record { frames = frames; inside = inside; last = last }) source
-    → new ≡ record old { tried = new.tried }
-    → ((s : Source) (head : HeldLine) (before : List SourceLine) (from l : SourceLine)
-    → IsLastLine s old head before from → IsRowRest s old.placing.builder.text line found.position l
-    → false ≡ is_some (alignments_for s l before from))
-    → ((s : Source) (head : HeldLine) (before : List SourceLine) (from l : SourceLine)
-    → IsLastLine s old head before from → IsRowRest s old.placing.builder.text line found.position l
-    → new.tried ≡ hold_fitting s (before ++ from ∷ further_line s l ∷ []))
+    → BeginsNoTable old new line found.position
     → IfParagraphLast s (IsUntabled s new line.start
     (reached_of s (record { frames = frames; inside = inside; last = last }) source)) last
-row_untabled s old new line found frames inside None source reaches same value tried = tt
-row_untabled s old new line found frames inside (Some b) source reaches same value tried =
-    let before = last_of frames inside b in
-    let by = reaches.by in
-    let from = line.start in
-    let r = reached_of s before source in
-    let open_block = open_paragraph s old frames inside b from by.stands.unended by.stands.remembers reaches.some
-    reaches.reads in
-    let holds = open_block.may.unended in
-    let last = last_line_of s old frames inside b open_block.sources from by.stands.source holds open_block.remembers
-    in
-    let rest = row_rest s old line found before source reaches in
-    subst (IfParagraph s (IsUntabled s new from r)) (sym holds.kind) (λ _.
-    untabled_line s old new from r open_block.sources (all_reached s old line found before source reaches)
-    open_block.remembers last same (sym (value s last.head last.before last.last r.rest last.is rest))
-    (tried s last.head last.before last.last r.rest last.is rest))
+row_untabled s old new line found frames inside None source reaches none = tt
+row_untabled s old new line found frames inside (Some b) source reaches none =
+    let r = reached_of s (last_of frames inside b) source in
+    let lines = has_lines s old line found frames inside b source reaches in
+    let paragraph = lines.paragraph in
+    let last = lines.last in
+    let fits = none.fits s last.before last.last r.rest lines.follows in
+    subst (IfParagraph s (IsUntabled s new line.start r)) (sym paragraph.may.unended.kind) (λ _.
+    untabled_line s old new line.start r paragraph.sources
+    (all_reached s old line found (last_of frames inside b) source reaches) paragraph.remembers last none.same fits.0
+    fits.1)

@@ -20,17 +20,18 @@ use Rattle.markdown_plain.specs.declared.looseness.Looseness.{Looseness}
 use Rattle.markdown_plain.specs.declared.pass.Pass.{Pass}
 use Rattle.markdown_plain.specs.Beginning.{Holds}
 use Rattle.markdown_plain.specs.Closable.{IsReadyAfter}
-use Rattle.markdown_plain.specs.Closing as closing
 use Rattle.markdown_plain.specs.Closing.{AreItemsInLists, MayEnd}
 use Rattle.markdown_plain.specs.Frames.{AreContainers, AreNested, Frame, reached, rebuilt, room_depth}
 use Rattle.markdown_plain.specs.Frames.{touched}
-use Rattle.markdown_plain.specs.OpenLeaves.{AreItemsOpenedIn, BeginsText, ComesAfter, HoldsParagraph, leaf_block}
-use Rattle.markdown_plain.specs.Paragraphs.{source_of}
-use Rattle.markdown_plain.specs.Settled.{IsLooseAs, IsLooseBefore}
+use Rattle.markdown_plain.specs.OpenLeaves.{BeginsText, HoldsParagraph, leaf_block}
+use Rattle.markdown_plain.specs.Paragraphs.{source_of, task_at}
+use Rattle.markdown_plain.specs.Settled.{IsBuilt, IsLooseAs, IsLooseBefore}
 use Rattle.markdown_plain.specs.Standing.{AreOpenedBefore, IsSource, PlacesFor, is_metadata}
 use Rattle.markdown_plain.specs.TableHeads.{IsUntabled, Remembers, next_line}
 use Rattle.markdown_plain.specs.TextLines.{IsContentAt, held_line, text_block, with_text}
+use Rattle.markdown_plain.proofs.AddedLinesLemmas.{line_added, paragraph_begun}
 use Rattle.markdown_plain.proofs.AddedTextLemmas.{GoesAs, loose_as_leaf, loose_with_leaf}
+use Rattle.markdown_plain.proofs.AddedLinesLemmas.{line_added, paragraph_begun}
 use Rattle.markdown_plain.proofs.AddedTextLemmas.{paragraph_line}
 use Rattle.markdown_plain.proofs.BegunLemmas.{IsLeftOf, block_begun, item_begun}
 use Rattle.markdown_plain.proofs.BlanksKnownLemmas.{same_touched}
@@ -91,13 +92,6 @@ placed_text s pass source line frames inside b sources blocks of holds next last
 pub record AddsLine (old new : Pass) (line : Line) (start : ℕ) : Type 0 where
   pub same : new ≡ record old { lines = new.lines }
   pub lines : new.lines.items ≡ old.lines.items ++ held_line line start ∷ []
-  pub further : (s : Source) (frames : List Frame) (inside : Forest Block) (b : Block) (sources : List SourceLine)
-      (source : SourceLine) → HoldsParagraph s old frames inside b sources
-      → ComesAfter old.placing.builder.text old.lines.items (held_line line start) source
-      → HoldsParagraph s new frames inside (record b {
-        last = source.next;
-        kind = was.paragraph_leaf (sources ++ source ∷ []);
-      }) (sources ++ source ∷ [])
 
 pub text_added : (s : Source) (old new : Pass) (line : Line) (start : ℕ) (frames : List Frame) (inside : Forest Block)
     (b : Block) (sources : List SourceLine) (source : SourceLine)
@@ -122,7 +116,7 @@ text_added s old new line start frames inside b sources source untabled stands m
     let containers = open_are_containers old.placing.builder.texts old.placing.builder.blocks frames
     holds.built.blocks in
     let after = ends_after text line rest start at is.from in
-    let added = adds.further s frames inside b sources next holds
+    let added = line_added s old new frames inside b sources (held_line line start) next adds.same adds.lines holds
     (next_comes s r text old.lines.items (held_line line start)
     (comes_after text line rest start at is.from old.lines.items stands.before)) in
     let now : HoldsParagraph s new frames inside grown (sources ++ next ∷ []) =
@@ -150,14 +144,12 @@ text_added s old new line start frames inside b sources source untabled stands m
 -- a line is held back as the first one of a paragraph, in the containers where there is room for it
 pub record BeginsLine (s : Source) (new : Pass) (line : Line) (start : ℕ) (outer : List Frame) (inside : Forest Block)
     : Type 0 where
-  pub stands : closing.StandsFor s new outer inside
-  pub untried : new.tried ≡ false
-  pub lines : new.lines.items ≡ held_line line start ∷ []
-  pub unheld : IsUnheld new
+  pub built : IsBuilt s new.placing.builder outer inside
   pub loose : IsLooseBefore new.looseness outer inside
-  pub first : (b : Block) (source : SourceLine)
-      → BeginsText new.placing.builder.text (held_line line start) source b → AreItemsOpenedIn line outer
-      → HoldsParagraph s new outer inside b (source ∷ [])
+  pub lines : new.lines.items ≡ held_line line start ∷ []
+  pub blanks : new.blanks.items ≡ []
+  pub task : new.task ≡ task_at new line start
+  pub untried : new.tried ≡ false
 
 -- what is left of a line that is text makes a paragraph
 text_made : (s : Source) (l : SourceLine) → is_blank_rest l ≡ false
@@ -198,9 +190,10 @@ text_begun s old new line start frames inside source of same is are nested items
     let begins_it = subst (λ t. BeginsText t (held_line line start) (text_line r.rest) b) kept
     (begins_block old.placing.builder.text line r.rest start at is.from) in
     placed_text s new source line outer now b (text_line r.rest ∷ []) (rebuilt frames inside) of
-    (begun.first b (text_line r.rest) begins_it
+    (paragraph_begun s new outer now b line (held_line line start) (text_line r.rest) refl refl begun.lines begun.task
+    begun.built (sym (ap (λ (s : Source). s.syntax) of)) begins_it
     (not_opened line outer after (earlier_taken line.start n frames earlier)))
-    is.next (sym at.next) (omega (arith, after)) (earlier_taken line.start n frames earlier) begun.unheld
+    is.next (sym at.next) (omega (arith, after)) (earlier_taken line.start n frames earlier) (λ outside. begun.blanks)
     (loose_with_leaf new.looseness outer now b refl begun.loose) items
     (begins_in_room s frames inside source are nested none
     (λ marker. text_no_item s r.rest marker own at.filled text)
@@ -208,5 +201,5 @@ text_begun s old new line start frames inside source of same is are nested items
     (λ reads. first_remembered s new line.next (held_line line start) (text_line r.rest) begun.lines refl begun.untried)
     (begun_ready old new line start r.rest source ready is at
     (λ closed. nothing_taken s frames inside source
-    (no_frames new.placing.builder.texts new.placing.builder.blocks outer begun.stands.built.blocks closed))
+    (no_frames new.placing.builder.texts new.placing.builder.blocks outer begun.built.blocks closed))
     begins_it.inside)

@@ -1,10 +1,10 @@
 -- What the open containers take of a line, by the open blocks and by the definition of blocks.
-use Rattle.std.proofs.Common.{◌≡◌, ◌≢◌, ⊎_elim, inl, inr, ℕ, zero, suc, ◌+◌, ◌-◌, ◌<◌, ◌≤◌, Bool, true, false, List}
-use Rattle.std.proofs.Common.{[], ◌∷◌, ◌++◌, length, drop, nat_le, nat_lt, refl, sym, ap, ◌∙◌, subst, arith}
+use Rattle.std.proofs.Common.{◌≡◌, inl, inr, ℕ, zero, suc, ◌+◌, ◌-◌, ◌<◌, ◌≤◌, Bool, true, false, List, [], ◌∷◌}
+use Rattle.std.proofs.Common.{◌++◌, length, drop, nat_le, nat_lt, refl, sym, ap, subst, ◌∙◌, arith}
 use Rattle.std.specs.Prelude.{Option, Some, None, not, ◌==◌, ◌||◌, ◌&&◌, if◌then◌else◌, codes}
 use Rattle.std.specs.List.{list_all, prefix_len}
 use Rattle.std.specs.Option.{IfSome, option_map}
-use Rattle.std.proofs.lemmas.Bool.{cases_Bool, true≢false}
+use Rattle.std.proofs.lemmas.Bool.{and_parts, or_parts, true≢false}
 use Rattle.std.proofs.lemmas.Bool.Decides.{eqb_tells, nat_tests}
 use Rattle.std.proofs.lemmas.List.Sums.{prefix_len-le-length}
 use Rattle.markdown_base.specs.Bytes.{space, tab}
@@ -13,9 +13,8 @@ use Rattle.markdown_base.specs.declared.item.ItemBody.{ItemBody}
 use Rattle.markdown_builder.specs.declared.open_block.OpenBlock.{OpenBlock}
 use Rattle.markdown_scan.specs.Beginnings.{begins_with}
 use Rattle.markdown_scan.specs.ContainerParts.{past_footnote, past_indent, past_quote}
-use Rattle.markdown_scan.specs.LineStart.{is_line_over}
-use Rattle.markdown_scan.specs.LineStart.{LineLeft, Space, column_after, leading_space, past_marker, past_one_byte}
-use Rattle.markdown_scan.specs.LineStart.{space_from, space_width}
+use Rattle.markdown_scan.specs.LineStart.{is_line_over, LineLeft, Space, column_after, leading_space, past_marker}
+use Rattle.markdown_scan.specs.LineStart.{past_one_byte, space_from, space_width}
 use Rattle.markdown_lines.specs.declared.line.Line.{Line}
 use Rattle.markdown_lines.specs.Lines.{is_space_or_tab}
 use Rattle.markdown_base.specs.Source.{Source}
@@ -26,9 +25,8 @@ use Rattle.markdown_block_rules.specs.BlockGrowth.{Block, Kind, is_nil}
 use Rattle.markdown_block_rules.proofs.BlockBeginningsLemmas.{either}
 use Rattle.markdown_plain.specs.declared.containers.Reached as code
 use Rattle.markdown_plain.specs.declared.pass.Pass.{Pass}
-use Rattle.markdown_plain.specs.Containers.{Reach, content_of, is_container, is_innermost, past_container}
-use Rattle.markdown_plain.specs.Containers.{reach_after, reach_from, reach_of}
-use Rattle.markdown_plain.specs.Containers.{reach_past, reach_start, whole_line}
+use Rattle.markdown_plain.specs.Containers.{Reach, content_of, is_container, is_innermost, past_container, reach_after}
+use Rattle.markdown_plain.specs.Containers.{reach_from, reach_of, reach_past, reach_start, whole_line}
 use Rattle.markdown_plain.specs.OpenBlocks as by_body
 use Rattle.markdown_plain.specs.Frames.{Frame, Reached, inside_container, is_list, is_quote, reached, reached_here}
 use Rattle.markdown_plain.specs.Frames.{reached_past, rebuilt}
@@ -36,6 +34,7 @@ use Rattle.markdown_plain.specs.Settled.{AreOpen, EmptyKnown, IsBodyOf}
 use Rattle.markdown_plain.specs.ReachedFrames.{IsAtMostLeaf, IsBefore, IsReached, are_none, quote_depth}
 use Rattle.markdown_plain.proofs.FramesLemmas.{ends_in_block}
 use Rattle.markdown_plain.proofs.LeafTreesLemmas.{few_owed, on_test}
+use Rattle.markdown_plain.proofs.ReachedLemmas.{by_test}
 
 -- ---- what space leaves
 
@@ -53,75 +52,48 @@ same_rest left = record { content = refl; end = refl }
 
 -- a byte that has a width is white space
 white_width : (column b : ℕ) → (space_width column b == 0) ≡ false → is_space_or_tab b ≡ true
-white_width column b some =
-    ⊎_elim (λ (e : (b == space) ≡ true). rw e refl)
-    (λ (e : (b == space) ≡ false). ⊎_elim (λ (t : (b == tab) ≡ true). rw (e, t) refl)
-    (λ (t : (b == tab) ≡ false). absurd (true≢false (rw (e, t) at some)))
-    (cases_Bool (b == tab)))
-    (cases_Bool (b == space))
+white_width column b some = by_test (b == space) (λ e. rw e refl) (λ e. by_test (b == tab) (λ t. rw (e, t) refl)
+    (λ t. absurd (true≢false (rw (e, t) at some))))
 
 -- the rest after a byte of white space
 past_byte : (scanned column owed after b : ℕ) (bytes : List ℕ) → is_space_or_tab b ≡ true
     → AreAlike (record { scanned = scanned + 1; owed = owed; column = after; bytes = bytes })
     (record { scanned = scanned; owed = 0; column = column; bytes = b ∷ bytes })
-past_byte scanned column owed after b bytes white =
-    record { content = rw white (omega arith); end = omega arith }
+past_byte scanned column owed after b bytes white = record { content = rw white (omega arith); end = omega arith }
 
-space_from_alike : (n scanned column : ℕ) (bytes : List ℕ)
-    → AreAlike (space_from n scanned column bytes).after
+space_from_alike : (n scanned column : ℕ) (bytes : List ℕ) → AreAlike (space_from n scanned column bytes).after
     (record { scanned = scanned; owed = 0; column = column; bytes = bytes })
-space_from_alike n scanned column [] =
-    same_rest (record { scanned = scanned; owed = 0; column = column; bytes = [] })
+space_from_alike n scanned column [] = same_rest (record { scanned = scanned; owed = 0; column = column; bytes = [] })
 space_from_alike n scanned column (b ∷ bytes) =
-    let here : LineLeft =
-    record { scanned = scanned; owed = 0; column = column; bytes = b ∷ bytes } in
+    let here : LineLeft = record { scanned = scanned; owed = 0; column = column; bytes = b ∷ bytes } in
     let width = space_width column b in
     let next = column_after column b in
-    on_test (λ (s : Space). AreAlike s.after here) ((n == 0) || (width == 0)) _ _
-    (λ e. same_rest here)
-    (λ some. on_test (λ (s : Space). AreAlike s.after here) (nat_lt n width) _ _
-    (λ more. past_byte scanned column (width - n) next b bytes (white some))
-    (λ less.
-    let one = past_byte scanned column 0 next b bytes (white some) in
+    on_test (λ (s : Space). AreAlike s.after here) ((n == 0) || (width == 0)) _ _ (λ e. same_rest here) (λ some.
+    let white = white_width column b (or_parts (n == 0) (width == 0) some).1 in
+    on_test (λ (s : Space). AreAlike s.after here) (nat_lt n width) _ _
+    (λ more. past_byte scanned column (width - n) next b bytes white) (λ less.
+    let one = past_byte scanned column 0 next b bytes white in
     let later = space_from_alike (n - width) (scanned + 1) next bytes in
     record { content = later.content ∙ one.content; end = later.end ∙ one.end }))
-  where
-    second : (one other : Bool) → (one || other) ≡ false → other ≡ false
-    second true other fails = absurd (true≢false fails)
-    second false other fails = fails
-
-    white : ((n == 0) || (space_width column b == 0)) ≡ false → is_space_or_tab b ≡ true
-    white some = white_width column b (second (n == 0) (space_width column b == 0) some)
 
 -- no column of space is content
 pub space_alike : (n : ℕ) (left : LineLeft) → AreAlike (leading_space n left).after left
-space_alike n left =
-    on_test (λ (s : Space). AreAlike s.after left) (nat_le n left.owed) _ _
+space_alike n left = on_test (λ (s : Space). AreAlike s.after left) (nat_le n left.owed) _ _
     (λ e. record { content = refl; end = refl })
-    (λ e.
-    let later =
-    space_from_alike (n - left.owed) left.scanned left.column left.bytes in
-    record { content = later.content; end = later.end })
+    (λ e. assumption (space_from_alike (n - left.owed) left.scanned left.column left.bytes))
 
 -- what is left of a line is blank where its content begins at its end
-pub blank_at : (left : LineLeft)
-    → nat_le (end_of left) (content_of left) ≡ list_all is_space_or_tab left.bytes
-blank_at left =
-    elim (eqb_tells (prefix_len is_space_or_tab left.bytes) (length left.bytes)) [
-      | inl all ↦ at_end all.1 ∙ sym (is_blank left.bytes all.1)
-      | inr some ↦ before_end some.1 ∙ sym (is_not_blank left.bytes some.1)
-    ]
-  where
-    at_end : prefix_len is_space_or_tab left.bytes ≡ length left.bytes
-        → nat_le (end_of left) (content_of left) ≡ true
-    at_end all = grind (arith, nat_tests)
-
-    before_end : prefix_len is_space_or_tab left.bytes ≢ length left.bytes
-        → nat_le (end_of left) (content_of left) ≡ false
-    before_end some =
-        let within = prefix_len-le-length is_space_or_tab left.bytes in
-        let less : content_of left < end_of left = omega (arith, within, some) in
-        grind (arith, nat_tests)
+pub blank_at : (left : LineLeft) → nat_le (end_of left) (content_of left) ≡ list_all is_space_or_tab left.bytes
+blank_at left = elim (eqb_tells (prefix_len is_space_or_tab left.bytes) (length left.bytes)) [
+  | inl all ↦
+      let same : nat_le (end_of left) (content_of left) ≡ true = grind (arith, nat_tests, all.1) in
+      same ∙ sym (is_blank left.bytes all.1)
+  | inr some ↦
+      let less : content_of left < end_of left =
+      omega (arith, prefix_len-le-length is_space_or_tab left.bytes, some.1) in
+      let after : nat_le (end_of left) (content_of left) ≡ false = grind (arith, nat_tests, less) in
+      after ∙ sym (is_not_blank left.bytes some.1)
+]
 
 -- ---- what a container leaves
 
@@ -131,25 +103,23 @@ record IsInside (quote : Bool) (left rest : LineLeft) : Type 0 where
   end : end_of rest ≡ end_of left
   few : left.owed ≤ 3 → rest.owed ≤ 3
 
-inside_space : (n : ℕ) (quote : Bool) (left : LineLeft)
-    → IsInside quote left (leading_space n left).after
-inside_space n quote left =
-    let alike = space_alike n left in
-    record { content = λ e. alike.content; end = alike.end; few = λ few. few_owed n left few }
+inside_space : (n : ℕ) (quote : Bool) (left : LineLeft) → IsInside quote left (leading_space n left).after
+inside_space n quote left = record {
+  content = λ e. (space_alike n left).content;
+  end = (space_alike n left).end;
+  few = λ few. few_owed n left few;
+}
 
 inside_nothing : (quote : Bool) (left : LineLeft) → IsInside quote left left
 inside_nothing quote left = record { content = λ e. refl; end = refl; few = λ few. few }
 
 -- the rest after a marker, which is there
-inside_marker : (left : LineLeft) → begins_with (codes ">") left.bytes ≡ true
-    → IsInside true left (past_marker left)
-inside_marker left marker =
-    let space = space_alike 1 (past_one_byte left) in
-    record {
-      content = λ e. absurd (true≢false e);
-      end = space.end ∙ past_first left.scanned left.bytes marker;
-      few = λ few. few_owed 1 (past_one_byte left) (omega arith);
-    }
+inside_marker : (left : LineLeft) → begins_with (codes ">") left.bytes ≡ true → IsInside true left (past_marker left)
+inside_marker left marker = record {
+  content = λ e. absurd (true≢false e);
+  end = (space_alike 1 (past_one_byte left)).end ∙ past_first left.scanned left.bytes marker;
+  few = λ few. few_owed 1 (past_one_byte left) (omega arith);
+}
   where
     past_first : (scanned : ℕ) (bytes : List ℕ) → begins_with (codes ">") bytes ≡ true
         → (scanned + 1) + length (drop 1 bytes) ≡ scanned + length bytes
@@ -160,20 +130,13 @@ inside_quote : (left : LineLeft) → IfSome (past_quote left) (IsInside true lef
 inside_quote left =
     let space = leading_space 4 left in
     let begins = begins_with (codes ">") space.after.bytes in
-    on_test (λ o. IfSome o (IsInside true left)) (nat_lt space.columns 4 && begins) _ _
-    (λ there.
-    let marker = inside_marker space.after (second (nat_lt space.columns 4) begins there) in
-    let alike = space_alike 4 left in
+    on_test (λ o. IfSome o (IsInside true left)) (nat_lt space.columns 4 && begins) _ _ (λ there.
+    let marker = inside_marker space.after (and_parts (nat_lt space.columns 4) begins there).1 in
     record {
       content = λ e. absurd (true≢false e);
-      end = marker.end ∙ alike.end;
+      end = marker.end ∙ (space_alike 4 left).end;
       few = λ few. marker.few (few_owed 4 left few);
-    })
-    (λ e. tt)
-  where
-    second : (one other : Bool) → (one && other) ≡ true → other ≡ true
-    second true other both = both
-    second false other both = absurd (true≢false (sym both))
+    }) (λ e. tt)
 
 inside_indent : (indent : ℕ) (left : LineLeft) → IfSome (past_indent indent left) (IsInside false left)
 inside_indent indent left =
@@ -201,26 +164,23 @@ data BothTake (quote list : Bool) (l : SourceLine) : Option LineLeft → Option 
         → BothTake quote list l (Some rest.left) (Some rest)
 
 is_rest_inside : (l : SourceLine) (rest : LineLeft) → IsRestOf false l (rest_inside rest l)
-is_rest_inside l rest =
-    record { next = refl; indent = refl; outermost = never l.outermost }
-  where
-    never : (outermost : Bool) → false ≡ (outermost && false)
-    never true = refl
-    never false = refl
+is_rest_inside l rest = record {
+  next = refl;
+  indent = refl;
+  outermost = by_test l.outermost (λ e. rw e refl) (λ e. rw e refl);
+}
 
 is_rest_in_list : (l : SourceLine) → IsRestOf true l l
-is_rest_in_list l = record { next = refl; indent = refl; outermost = always l.outermost }
-  where
-    always : (outermost : Bool) → outermost ≡ (outermost && true)
-    always true = refl
-    always false = refl
+is_rest_in_list l = record {
+  next = refl;
+  indent = refl;
+  outermost = by_test l.outermost (λ e. rw e refl) (λ e. rw e refl);
+}
 
-both_inside : (quote : Bool) (l : SourceLine) (o : Option LineLeft)
-    → IfSome o (IsInside quote l.left)
+both_inside : (quote : Bool) (l : SourceLine) (o : Option LineLeft) → IfSome o (IsInside quote l.left)
     → BothTake quote false l o (option_map (λ rest. rest_inside rest l) o)
 both_inside quote l None inside = neither
-both_inside quote l (Some rest) inside =
-    both (rest_inside rest l) (is_rest_inside l rest) inside
+both_inside quote l (Some rest) inside = both (rest_inside rest l) (is_rest_inside l rest) inside
 
 -- that a container is empty matters of items only
 abbrev AreSameOf : Kind → Bool → Bool → Type 0
@@ -235,11 +195,9 @@ both_going_on l true o inside = neither
 both_going_on l false o inside = both_inside false l o inside
 
 module _ (s : Source) (l : SourceLine) (texts : List (List ℕ)) where
-  both_take : (empty none : Bool) (kind : Kind) (b : ItemBody) → IsBodyOf texts kind b
-      → AreSameOf kind empty none
+  both_take : (empty none : Bool) (kind : Kind) (b : ItemBody) → IsBodyOf texts kind b → AreSameOf kind empty none
       → BothTake (by_body.is_quote b) (is_list kind) l
-      (past_container s.syntax.old_footnotes empty (is_blank_rest l) b l.left)
-      (inside_container s l none kind)
+      (past_container s.syntax.old_footnotes empty (is_blank_rest l) b l.left) (inside_container s l none kind)
   both_take empty none was.quote_container b is same =
       rw is (both_inside true l (past_quote l.left) (inside_quote l.left))
   both_take empty none (was.alert_container kind) b is same =
@@ -256,37 +214,19 @@ module _ (s : Source) (l : SourceLine) (texts : List (List ℕ)) where
   both_take empty none other b is same = absurd is
 
 is_container_of : (texts : List (List ℕ)) (kind : Kind) (b : ItemBody) → IsBodyOf texts kind b
-    → is_container b ≡ true
-is_container_of texts was.quote_container b is = rw is refl
-is_container_of texts (was.alert_container kind) b is = rw is refl
-is_container_of texts (was.list_container marker) b is = rw is refl
-is_container_of texts (was.item_container indent) b is = rw is refl
-is_container_of texts (was.footnote_container label) b is = rw is.1 refl
+    → (is_container b ≡ true) × (by_body.is_quote b ≡ is_quote kind)
+is_container_of texts was.quote_container b is = (rw is refl, rw is refl)
+is_container_of texts (was.alert_container kind) b is = (rw is refl, rw is refl)
+is_container_of texts (was.list_container marker) b is = (rw is refl, rw is refl)
+is_container_of texts (was.item_container indent) b is = (rw is refl, rw is refl)
+is_container_of texts (was.footnote_container label) b is = (rw is.1 refl, rw is.1 refl)
 is_container_of texts other b is = absurd is
-
-is_quote_of : (texts : List (List ℕ)) (kind : Kind) (b : ItemBody) → IsBodyOf texts kind b
-    → by_body.is_quote b ≡ is_quote kind
-is_quote_of texts was.quote_container b is = rw is refl
-is_quote_of texts (was.alert_container kind) b is = rw is refl
-is_quote_of texts (was.list_container marker) b is = rw is refl
-is_quote_of texts (was.item_container indent) b is = rw is refl
-is_quote_of texts (was.footnote_container label) b is = rw is.1 refl
-is_quote_of texts other b is = absurd is
 
 -- ---- which container is an empty item
 
--- where a container is open, it is known whether the innermost is an empty item
-abbrev IsEmptyKnown : Bool → List Frame → Forest Block → Type 0
-IsEmptyKnown empty [] inside = Unit
-IsEmptyKnown empty (f ∷ frames) inside = EmptyKnown empty (f ∷ frames) inside
-
-known_of_any : (empty : Bool) (frames : List Frame) (inside : Forest Block)
-    → EmptyKnown empty frames inside → IsEmptyKnown empty frames inside
-known_of_any empty [] inside known = tt
-known_of_any empty (f ∷ frames) inside known = known
-
+-- it is known whether the innermost container is an empty item, also of those inside the outermost
 known_inside : (empty : Bool) (f : Frame) (frames : List Frame) (inside : Forest Block)
-    → EmptyKnown empty (f ∷ frames) inside → IsEmptyKnown empty frames inside
+    → EmptyKnown empty (f ∷ frames) inside → EmptyKnown empty frames inside
 known_inside empty f [] inside known = tt
 known_inside empty f (g ∷ frames) inside known = known
 
@@ -304,15 +244,13 @@ innermost_known empty f other inside known = tt
 same_empty : (texts : List (List ℕ)) (empty : Bool) (f : Frame) (frames : List Frame)
     (containers leaf : List OpenBlock) (inside : Forest Block) → AreOpen texts containers frames
     → EmptyKnown (is_innermost leaf && empty) (f ∷ frames) inside
-    → AreSameOf f.block.kind (is_innermost (containers ++ leaf) && empty)
-    (is_nil (rebuilt frames inside))
+    → AreSameOf f.block.kind (is_innermost (containers ++ leaf) && empty) (is_nil (rebuilt frames inside))
 same_empty texts empty f [] [] leaf inside are known =
     innermost_known (is_innermost leaf && empty) f f.block.kind inside known
-same_empty texts empty f [] (block ∷ containers) leaf inside are known = absurd are
-same_empty texts empty f (g ∷ frames) [] leaf inside are known = absurd are
 same_empty texts empty f (g ∷ frames) (block ∷ containers) leaf inside are known =
     same_of_any f.block.kind false (is_nil (rebuilt (g ∷ frames) inside))
     (sym (ends_in_block g.before g.block (rebuilt frames inside)))
+same_empty texts empty f frames containers leaf inside are known = absurd are
 
 -- ---- what is reached
 
@@ -330,8 +268,7 @@ quoted_at depth quoted inner = if nat_lt 0 inner then depth + inner else quoted
 
 -- what is reached with some containers is what the definition says, in a line of which this is left
 -- outside them
-record Reaches (stop : ℕ) (l : SourceLine) (outside : Reach) (r : Reached) (reach : Reach)
-    : Type 0 where
+record Reaches (stop : ℕ) (l : SourceLine) (outside : Reach) (r : Reached) (reach : Reach) : Type 0 where
   depth : reach.depth ≡ outside.depth + length r.outer
   all : reach.all ≡ are_none r.inner
   left : reach.left ≡ r.rest.left
@@ -346,18 +283,7 @@ record Reaches (stop : ℕ) (l : SourceLine) (outside : Reach) (r : Reached) (re
 reaches_here : (stop : ℕ) (l : SourceLine) (reach : Reach) (inner : List Frame) (all : Bool)
     → all ≡ are_none inner → IsAt stop l reach
     → Reaches stop l reach (reached_here inner l) (record reach { all = all })
-reaches_here stop l reach inner all none at = record {
-  depth = omega arith;
-  all = none;
-  left = at.left;
-  content = at.content;
-  end = at.end;
-  few = at.few;
-  next = refl;
-  indent = refl;
-  outermost = (is_rest_in_list l).outermost;
-  quoted = refl;
-}
+reaches_here stop l reach inner all none at = search (arith, at, none, (is_rest_in_list l).outermost)
 
 quoted_past : (quote : Bool) (depth quoted inner : ℕ)
     → quoted_at (depth + 1) (if quote then depth + 1 else quoted) inner
@@ -366,10 +292,6 @@ quoted_past true depth quoted zero = omega arith
 quoted_past true depth quoted (suc inner) = grind (arith, nat_tests)
 quoted_past false depth quoted zero = refl
 quoted_past false depth quoted (suc inner) = grind (arith, nat_tests)
-
-all_three : (one other third : Bool) → ((one && other) && third) ≡ (one && (other && third))
-all_three true other third = refl
-all_three false other third = refl
 
 -- with a container, inside which `later` and `more` say what is reached
 module _ (f : Frame) (frames : List Frame) (b : ItemBody) (stop : ℕ) (l : SourceLine)
@@ -386,41 +308,30 @@ module _ (f : Frame) (frames : List Frame) (b : ItemBody) (stop : ℕ) (l : Sour
   }
 
   reaches_inside : (rest : SourceLine) → IsRestOf (is_list f.block.kind) l rest
-      → by_body.is_quote b ≡ is_quote f.block.kind
-      → Reaches stop rest (reach_after b rest.left reach) (more rest)
-      (later (reach_after b rest.left reach))
-      → Reaches stop l reach (reached_past f frames l more (Some rest))
+      → by_body.is_quote b ≡ is_quote f.block.kind → Reaches stop rest (reach_after b rest.left reach) (more rest)
+      (later (reach_after b rest.left reach)) → Reaches stop l reach (reached_past f frames l more (Some rest))
       (reach_past later b (Some rest.left) reach)
-  reaches_inside rest is quote inner =
-      let deep = quote_depth (more rest).outer in
-      let lists = list_all (λ (g : Frame). is_list g.block.kind) (more rest).outer in
-      record {
-        depth = let n = inner.depth in omega (arith, n);
-        all = inner.all;
-        left = inner.left;
-        content = inner.content;
-        end = inner.end;
-        few = inner.few;
-        next = inner.next ∙ is.next;
-        indent = inner.indent ∙ is.indent;
-        outermost =
-            inner.outermost ∙ (ap (λ outermost. outermost && lists) is.outermost
-            ∙ all_three l.outermost (is_list f.block.kind) lists);
-        quoted =
-            inner.quoted ∙ (quoted_past (by_body.is_quote b) reach.depth reach.quoted deep
-            ∙ ap (λ quote. quoted_at reach.depth reach.quoted
-            (if quote || nat_lt 0 deep then deep + 1 else 0)) quote);
-      }
+  reaches_inside rest is quote inner = record {
+    depth = omega (arith, inner.depth);
+    all = inner.all;
+    left = inner.left;
+    content = inner.content;
+    end = inner.end;
+    few = inner.few;
+    next = inner.next ∙ is.next;
+    indent = inner.indent ∙ is.indent;
+    outermost = inner.outermost ∙ rw is.outermost (by_test l.outermost (λ e. rw e refl) (λ e. rw e refl));
+    quoted = inner.quoted
+        ∙ rw quote (quoted_past (is_quote f.block.kind) reach.depth reach.quoted (quote_depth (more rest).outer));
+  }
 
   reaches_past : (taken : Option LineLeft) (rest : Option SourceLine)
       → BothTake (by_body.is_quote b) (is_list f.block.kind) l taken rest
       → by_body.is_quote b ≡ is_quote f.block.kind → IsAt stop l reach
       → ((rest : SourceLine) → IsAt stop rest (reach_after b rest.left reach)
-      → Reaches stop rest (reach_after b rest.left reach) (more rest)
-      (later (reach_after b rest.left reach)))
+      → Reaches stop rest (reach_after b rest.left reach) (more rest) (later (reach_after b rest.left reach)))
       → Reaches stop l reach (reached_past f frames l more rest) (reach_past later b taken reach)
-  reaches_past None None neither quote at inner =
-      reaches_here stop l reach (f ∷ frames) false refl at
+  reaches_past None None neither quote at inner = reaches_here stop l reach (f ∷ frames) false refl at
   reaches_past None (Some m) taken quote at inner = elim taken [ ]
   reaches_past (Some left) None taken quote at inner = elim taken [ ]
   reaches_past (Some left) (Some m) (both rest is inside) quote at inner =
@@ -437,37 +348,31 @@ module _ (s : Source) (texts : List (List ℕ)) (empty : Bool) (stop : ℕ) (ins
 
   -- of the open containers, with a leaf or without
   reaches : (frames : List Frame) (containers : List OpenBlock) → AreOpen texts containers frames
-      → IsEmptyKnown (is_innermost leaf && empty) frames inside → (l : SourceLine) (reach : Reach)
+      → EmptyKnown (is_innermost leaf && empty) frames inside → (l : SourceLine) (reach : Reach)
       → IsAt stop l reach → Reaches stop l reach (reached s frames inside l)
       (reach_from s.syntax.old_footnotes empty stop (containers ++ leaf) reach)
   unfolding reached reach_from
   reaches [] [] are known l reach at =
       rw (leaf_stays leaf reach alone) (reaches_here stop l reach [] reach.all at.all at)
-  reaches [] (block ∷ containers) are known l reach at = absurd are
-  reaches (f ∷ frames) [] are known l reach at = absurd are
   reaches (f ∷ frames) (block ∷ containers) are known l reach at =
       let old = s.syntax.old_footnotes in
       let last = is_innermost (containers ++ leaf) && empty in
       let none = is_nil (rebuilt frames inside) in
       let kind = f.block.kind in
       let body = are.0.body in
-      let blank : nat_le stop reach.content ≡ is_blank_rest l =
-      rw (at.end, at.content) (blank_at l.left) in
+      let is = is_container_of texts kind block.body body in
+      let blank : nat_le stop reach.content ≡ is_blank_rest l = rw (at.end, at.content) (blank_at l.left) in
       let taken : past_container old last (nat_le stop reach.content) block.body reach.left
-      ≡ past_container old last (is_blank_rest l) block.body l.left =
-      ap (λ b. past_container old last b block.body reach.left) blank
-      ∙ ap (λ left. past_container old last (is_blank_rest l) block.body left) at.left in
-      rw (is_container_of texts kind block.body body, taken)
-      (reaches_past f frames block.body stop l reach
+      ≡ past_container old last (is_blank_rest l) block.body l.left = rw (blank, at.left) refl in
+      rw (is.0, taken) (reaches_past f frames block.body stop l reach
       (reach_from old empty stop (containers ++ leaf)) (reached s frames inside)
-      (past_container old last (is_blank_rest l) block.body l.left)
-      (inside_container s l none kind)
+      (past_container old last (is_blank_rest l) block.body l.left) (inside_container s l none kind)
       (both_take s l texts last none kind block.body body
-      (same_empty texts empty f frames containers leaf inside are.1 known))
-      (is_quote_of texts kind block.body body) at
+      (same_empty texts empty f frames containers leaf inside are.1 known)) is.1 at
       (λ rest there. reaches frames containers are.1
       (known_inside (is_innermost leaf && empty) f frames inside known) rest
       (reach_after block.body rest.left reach) there))
+  reaches frames containers are known l reach at = absurd are
 
 -- before a line
 starts_at : (text : List ℕ) (line : Line) (source : SourceLine)
@@ -489,32 +394,22 @@ quoted_outside (suc inner) = grind (arith, nat_tests)
 pub frames_reached : (pass : Pass) (line : Line) (s : Source) (frames : List Frame)
     (inside : Forest Block) (source : SourceLine) (result : code.Reached)
     → reach_of pass.placing.builder.text line.stop result
-    ≡ reach_from pass.syntax.old_footnotes pass.looseness.item_is_empty line.stop
-    pass.placing.builder.blocks
-    (reach_start (whole_line pass.placing.builder.text line))
-    → IsBefore pass line s frames inside source
+    ≡ reach_from pass.syntax.old_footnotes pass.looseness.item_is_empty line.stop pass.placing.builder.blocks
+    (reach_start (whole_line pass.placing.builder.text line)) → IsBefore pass line s frames inside source
     → IsReached pass.placing.builder.text line source result (reached s frames inside source)
 frames_reached pass line s frames inside source result is before =
     let text = pass.placing.builder.text in
-    let stop = line.stop in
     let empty = pass.looseness.item_is_empty in
     let start = reach_start (whole_line text line) in
     let r = reached s frames inside source in
-    let same : reach_of text stop result
-    ≡ reach_from s.syntax.old_footnotes empty stop (before.containers ++ before.leaf) start =
-    is
-    ∙ (ap (λ syntax. reach_from syntax.old_footnotes empty stop
-    pass.placing.builder.blocks start) before.syntax
-    ∙ ap (λ blocks. reach_from s.syntax.old_footnotes empty stop blocks start)
-    before.blocks) in
-    let found : Reaches stop source start r (reach_of text stop result) =
-    subst (λ reach. Reaches stop source start r reach) (sym same)
-    (reaches s pass.placing.builder.texts empty stop inside before.leaf before.alone frames
-    before.containers before.are
-    (known_of_any (is_innermost before.leaf && empty) frames inside before.empty) source start
-    (starts_at text line source before.left before.stop)) in
+    let same : reach_of text line.stop result
+    ≡ reach_from s.syntax.old_footnotes empty line.stop (before.containers ++ before.leaf) start =
+    rw (← before.syntax, ← before.blocks) is in
+    let found : Reaches line.stop source start r (reach_of text line.stop result) =
+    rw same (reaches s pass.placing.builder.texts empty line.stop inside before.leaf before.alone frames
+    before.containers before.are before.empty source start (starts_at text line source before.left before.stop)) in
     record {
-      depth = let n = found.depth in omega (arith, n);
+      depth = omega (arith, found.depth);
       all = found.all;
       rest = record {
         left = found.left;

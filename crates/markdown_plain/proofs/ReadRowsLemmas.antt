@@ -1,6 +1,6 @@
 -- Which lines are rows of the open table, as the pass finds it out: a row is added, or the line ends the table.
-use Rattle.std.proofs.Common.{◌≡◌, ℕ, ◌+◌, ◌<◌, ◌≤◌, Bool, false, ◌&&◌, ◌==◌, List, [], ◌∷◌}
-use Rattle.std.proofs.Common.{Option, Some, None, length, get_or, refl, sym, ap, ◌∙◌, subst, arith}
+use Rattle.std.proofs.Common.{◌≡◌, ℕ, ◌+◌, ◌<◌, ◌≤◌, Bool, false, ◌&&◌, ◌==◌, List, [], ◌∷◌, Option, Some, None, length}
+use Rattle.std.proofs.Common.{get_or, refl, sym, ap, ◌∙◌, subst, arith}
 use Rattle.std.proofs.lemmas.Option.{none-some, same_Some}
 use Rattle.std.specs.List.{list_all, prefix_len}
 use Rattle.std.specs.Prelude.{if◌then◌else◌, slice_range}
@@ -25,8 +25,7 @@ use Rattle.markdown_plain.specs.declared.containers.Reached as code
 use Rattle.markdown_plain.specs.declared.pass.Pass.{Pass}
 use Rattle.markdown_plain.specs.Closable.{IsInText}
 use Rattle.markdown_plain.specs.HeldSources.{IsTextLine}
-use Rattle.markdown_plain.specs.ReachedLines.{Before, IsReachedBy, blocks_in}
-use Rattle.markdown_plain.specs.ReachedLines.{reached_of}
+use Rattle.markdown_plain.specs.ReachedLines.{Before, IsReachedBy, blocks_in, reached_of}
 use Rattle.markdown_plain.specs.TableRows.{is_text_start}
 use Rattle.markdown_plain.specs.TextLines.{IsContentAt, held_line}
 use Rattle.markdown_plain.proofs.HeldTextLemmas.{begins_block, is_held_line, starts_before}
@@ -64,16 +63,14 @@ pub row_in_text : (s : Source) (pass : Pass) (line : Line) (found : code.Reached
     → is_blank_rest (reached_of s before source).rest ≡ false
     → IsInText pass.placing.builder.text (held_line line found.content)
 row_in_text s pass line found before source by filled =
-    let text = pass.placing.builder.text in
     let at = content_reached s pass line found before source by filled in
-    let first = starts_before text line (reached_of s before source).rest found.content at in
-    let ends = by.is.from.ends in
+    let first = starts_before pass.placing.builder.text line (reached_of s before source).rest found.content at in
     record {
       content = omega (arith, first);
-      ending = omega (arith, ends);
+      ending = omega (arith, by.is.from.ends);
       start = at.boundary;
-      stop = stop_between text line.start line.stop by.is.from.content;
-      next = next_between text line.start line by.is.utf8 by.is.from;
+      stop = stop_between pass.placing.builder.text line.start line.stop by.is.from.content;
+      next = next_between pass.placing.builder.text line.start line by.is.utf8 by.is.from;
     }
 
 -- bytes of which the first is no white space
@@ -169,10 +166,9 @@ module _ (s : Source) (pass : Pass) (line : Line) (found : code.Reached) (before
         let at = content_reached s pass line found before source by filled in
         let held = is_held_line text line (reached_of s before source).rest found.content at by.is.from in
         let bytes = is_row_line.bytes in
-        let inside = row_in_text s pass line found before source by filled in
         let some = starts_before text line (reached_of s before source).rest found.content at in
         let size : 0 < length row.left.bytes = filled_size text found.content line.stop row.left.bytes bytes some
-        inside.stop.0 in
+        (row_in_text s pass line found before source by filled).stop.0 in
         let there = in_part text row.left.bytes found.content line.stop 0 (sym bytes) size in
         begins_filled row.left.bytes size
         (ap is_space_or_tab (there.byte ∙ ap (λ n. get_or text n 0) (omega arith)) ∙ held.first)

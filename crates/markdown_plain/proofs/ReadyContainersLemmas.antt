@@ -1,9 +1,7 @@
 -- Where an item may be opened that the rest of a line begins: only white space is before it where no block is open. And
 -- an alert, which takes the whole line, leaves the pass ready for the next one.
-use Rattle.std.proofs.Common.{◌≡◌, ℕ, zero, suc, ◌-◌, ◌≤◌, Bool, true, false, List, [], ◌∷◌, length, Some, take, refl}
-use Rattle.std.proofs.Common.{sym, ap, ◌∙◌, subst, arith, true≢false}
-use Rattle.std.specs.Prelude.{if◌then◌else◌}
-use Rattle.std.specs.Str.{IsCharBoundary}
+use Rattle.std.proofs.Common.{◌≡◌, ℕ, zero, suc, ◌-◌, ◌≤◌, true, false, List, [], ◌∷◌, length, Some, take, refl, sym}
+use Rattle.std.proofs.Common.{ap, ◌∙◌, arith}
 use Rattle.std.proofs.lemmas.List.{length-append, length-take}
 use Rattle.markdown_base.specs.Forest.{Forest, nil}
 use Rattle.markdown_base.specs.declared.item.ItemBody.TheVariants as body
@@ -14,27 +12,24 @@ use Rattle.markdown_scan.specs.LineStart.{LineLeft}
 use Rattle.markdown_lines.specs.BlockBeginnings as line
 use Rattle.markdown_base.specs.Source.{Source}
 use Rattle.markdown_lines.specs.BlockStarts.{left_at}
-use Rattle.markdown_lines.specs.Lines.{AllPass, is_in_blank_line}
 use Rattle.markdown_lines.specs.SourceLines.{SourceLine, is_blank_rest}
 use Rattle.markdown_lines.specs.declared.block_start.BlockStart.TheVariants as start
 use Rattle.markdown_lines.specs.declared.block_start.ItemStart.{ItemStart}
-use Rattle.markdown_block_rules.specs.BlockGrowth as was
-use Rattle.markdown_block_rules.specs.BlockGrowth.{Block, Kind, content_of}
+use Rattle.markdown_block_rules.specs.BlockGrowth.{Block, content_of}
 use Rattle.markdown_block_rules.proofs.BlockBeginningsLemmas.{either}
 use Rattle.markdown_plain.specs.declared.beginnings.LineRest.{LineRest}
 use Rattle.markdown_plain.specs.declared.pass.Pass.{Pass}
 use Rattle.markdown_plain.specs.Beginning as turn
 use Rattle.markdown_plain.specs.Beginning.{IsFirst, IsFound, IsHere, IsInside, IsLeft, Turn}
-use Rattle.markdown_plain.specs.Closable.{IsInText, IsReadyAfter, MayOpenItem, MayOpenItemAfter, by_closing, in_room}
+use Rattle.markdown_plain.specs.Closable.{IsReadyAfter, MayOpenItem, MayOpenItemAfter, by_closing, in_room}
 use Rattle.markdown_plain.specs.Fits.{MayStep}
 use Rattle.markdown_plain.specs.Fitting.{opened}
 use Rattle.markdown_plain.specs.Frames.{Frame, innermost_is, is_list, room_depth}
-use Rattle.markdown_plain.specs.HeldSources.{AreInParagraph}
 use Rattle.markdown_plain.specs.OpenBlocks as own
 use Rattle.markdown_plain.specs.OpenBlocks.{outer_of, room_in, without_leaf, without_list}
 use Rattle.markdown_plain.specs.Paragraphs.{task_at}
 use Rattle.markdown_plain.specs.ReachedLines.{Before, blocks_in, reached_of}
-use Rattle.markdown_plain.specs.Settled.{AreOpen, IsBodyOf, IsBuilt, placed_end}
+use Rattle.markdown_plain.specs.Settled.{AreOpen, IsBuilt, placed_end}
 use Rattle.markdown_plain.specs.TextLines.{held_line}
 use Rattle.markdown_plain.proofs.HasRoomLemmas.{room_inside}
 use Rattle.markdown_plain.proofs.BegunContainersLemmas.{content_before}
@@ -42,6 +37,7 @@ use Rattle.markdown_plain.proofs.BegunTextsLemmas.{end_begins}
 use Rattle.markdown_plain.proofs.ClosableLemmas.{white_both}
 use Rattle.markdown_plain.proofs.ClosedFramesLemmas.{as_many_open}
 use Rattle.markdown_plain.proofs.FittingLemmas.{some_opened}
+use Rattle.markdown_plain.proofs.FramesInsideLemmas.{list_alike}
 use Rattle.markdown_plain.proofs.FoundBlocksLemmas.{found_begins}
 use Rattle.markdown_plain.proofs.FoundPlacesLemmas.{left_content}
 use Rattle.markdown_plain.proofs.LeafTreesLemmas.{on_test}
@@ -54,16 +50,6 @@ use Rattle.markdown_plain.proofs.RoomLemmas.{last_open}
 use Rattle.markdown_plain.proofs.RoomReadyLemmas.{nothing_taken, ready_later}
 
 -- ---- room outside all blocks
-
--- the containers that are lists have the bodies of lists
-list_kind : (texts : List (List ℕ)) (kind : Kind) (block : OpenBlock) → IsBodyOf texts kind block.body
-    → own.is_list block.body ≡ true → is_list kind ≡ true
-list_kind texts was.quote_container block is list = absurd (true≢false (sym list ∙ ap own.is_list is))
-list_kind texts (was.alert_container kind) block is list = absurd (true≢false (sym list ∙ ap own.is_list is))
-list_kind texts (was.list_container marker) block is list = refl
-list_kind texts (was.item_container indent) block is list = absurd (true≢false (sym list ∙ ap own.is_list is))
-list_kind texts (was.footnote_container label) block is list = absurd (true≢false (sym list ∙ ap own.is_list is.1))
-list_kind texts other block is list = absurd is
 
 -- where no block is left without the list at the end, that list was alone
 list_alone : (block : OpenBlock) (blocks : List OpenBlock) → without_list (block ∷ blocks) ≡ []
@@ -83,8 +69,7 @@ list_alone block (inner ∷ blocks) none =
 
 -- room outside all blocks is outside all containers
 room_outside : (texts : List (List ℕ)) (n : ℕ) (blocks : List OpenBlock) (frames : List Frame)
-    → AreOpen texts blocks frames → n ≤ length frames → room_in n blocks ≡ []
-    → take (room_depth n frames) frames ≡ []
+    → AreOpen texts blocks frames → n ≤ length frames → room_in n blocks ≡ [] → take (room_depth n frames) frames ≡ []
 room_outside texts zero blocks frames are few none =
     either (λ n. take n frames ≡ []) (innermost_is is_list (take 0 frames)) (0 - 1) 0 refl refl
 room_outside texts (suc n) [] [] are few none = absurd (omega (arith, few))
@@ -92,13 +77,16 @@ room_outside texts (suc n) [] (f ∷ frames) are few none = absurd are
 room_outside texts (suc n) (block ∷ blocks) [] are few none = absurd are
 room_outside texts (suc zero) (block ∷ blocks) (f ∷ frames) are few none =
     let only = list_alone block [] none in
-    ap (λ (list : Bool). take (if list then 1 - 1 else 1) (f ∷ frames))
-    (list_kind texts f.block.kind block are.0.body only.1)
+    let list : is_list f.block.kind ≡ true = sym (list_alike texts f.block.kind block.body are.0.body) ∙ only.1 in
+    rw list refl
 room_outside texts (suc (suc n)) (block ∷ blocks) (f ∷ frames) are few none =
-    let only = (list_alone block (take (suc n) blocks) none).0 in
-    let size = length-take (suc n) blocks in
-    let many = as_many_open texts blocks frames are.1 in
-    absurd (omega (arith, few, only, size, many))
+    absurd (omega (
+      arith,
+      few,
+      (list_alone block (take (suc n) blocks) none).0,
+      length-take (suc n) blocks,
+      as_many_open texts blocks frames are.1,
+    ))
 
 -- ---- the item
 
@@ -109,30 +97,25 @@ first_may_open : (s : Source) (old : Pass) (rest : LineRest) (before : Before) (
 first_may_open s old rest before l source blocks at state place =
     let text : old.placing.builder.text ≡ s.text = ap (λ (r : Source). r.text) state.holds.source in
     let ready = state.holds.ready in
-    let low = ready.low in
-    let after = state.left.after in
     let here : rest.position.at ≡ source.left.scanned =
     ap (λ (left : LineLeft). left.scanned) state.left.is.rest.left in
     let content = left_content s rest source at state.left state.filled place in
     let around = last_open s old before.frames before.inside before.last state.holds.unended in
     let r = reached_of s before l in
     let parts = ap length (reached_parts s before.frames (blocks_in before) l) in
-    let sum = length-append r.outer r.inner in
     record {
       closable = ready.closable;
-      low = omega (arith, low, after, here, place);
-      boundary = subst (λ t. IsCharBoundary t at) (sym text) content.boundary;
+      low = omega (arith, ready.low, state.left.after, here, place);
+      boundary = rw text content.boundary;
       white = λ none.
           let all = nothing_taken s before.frames (blocks_in before) l
           (room_outside around.texts (length r.outer) (without_leaf old.placing.builder) before.frames around.are
-          (omega (arith, parts, sum))
-          (subst (λ n. room_in n (without_leaf old.placing.builder) ≡ []) state.depth none)) in
+          (omega (arith, parts, length-append r.outer r.inner)) (rw state.depth at none)) in
           let begins : source.left.scanned ≡ rest.line.start =
           ap (λ (m : SourceLine). m.left.scanned) (state.reached ∙ all)
           ∙ sym (ap (λ (left : LineLeft). left.scanned) state.is.left) in
           white_both old.placing.builder.text old.placed rest.line.start at ready.white
-          (subst (λ t. AllPass is_in_blank_line t rest.line.start at) (sym text)
-          (line_white s.text rest.line source at content state.left.from state.left.utf8 begins));
+          (rw text (line_white s.text rest.line source at content state.left.from state.left.utf8 begins));
     }
 
 -- inside containers that the line opened, a step to what begins fits
@@ -142,12 +125,11 @@ later_may_step : (s : Source) (pass : Pass) (rest : LineRest) (frames : List Fra
 later_may_step s pass rest frames source blocks at state filled place =
     let view = pass.placing.builder in
     let built = state.opened.free.built in
-    let ready = ready_later s view rest source built.text (λ none. some frames state.opened.first
-    (sym (as_many_containers s view frames nil built) ∙ ap length none)) state.ahead state.left filled in
-    subst (MayStep view) (sym place) ready.ready
+    rw place (ready_later s view rest source built.text (λ none. some frames state.opened.first
+    (sym (as_many_containers s view frames nil built) ∙ ap length none)) state.ahead state.left filled).ready
   where
     some : (fs : List Frame) → placed_end 0 fs nil ≡ rest.line.next → length fs ≡ 0 → ⊥
-    some [] first none = let after = line_some s rest source state.left filled in absurd (omega (arith, first, after))
+    some [] first none = absurd (omega (arith, first, line_some s rest source state.left filled))
     some (f ∷ fs) first none = absurd (omega (arith, none))
 
 -- in either case
@@ -181,8 +163,6 @@ end_ready s old now rest source at frames kind left filled place holds =
     let view = now.placing.builder in
     let text : view.text ≡ s.text = holds.built.text in
     let here : view.at ≡ at = ap (λ (b : BuilderView). b.at) holds.opens in
-    let before = content_before source.left filled in
-    let stop = left.is.stop in
     let content = left_content s rest source at left filled place in
     let held = line_in_text s.text rest.line source at content left.from left.utf8 in
     first_ready now rest.line rest.line.stop (record {
@@ -190,11 +170,10 @@ end_ready s old now rest source at frames kind left filled place holds =
       containers = are_bodies view.texts view.blocks frames holds.built.blocks;
       lines = holds.lines;
       task = holds.task;
-      inside = subst (λ t. AreInParagraph t (held_line rest.line rest.line.stop ∷ [])) (sym text)
-          (end_begins s.text rest.position rest.line source left.is filled).inside;
+      inside = rw text (end_begins s.text rest.position rest.line source left.is filled).inside;
       next = record {
-        low = omega (arith, here, place, before, stop);
-        is = subst (λ t. IsInText t (held_line rest.line rest.line.stop)) (sym text) (record {
+        low = omega (arith, here, place, content_before source.left filled, left.is.stop);
+        is = rw text (record {
           content = omega arith;
           ending = held.ending;
           start = held.stop;

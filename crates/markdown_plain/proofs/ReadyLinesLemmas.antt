@@ -1,22 +1,20 @@
 -- Readiness between two lines: where a line takes the pass, the calls for the next one fit.
-use Rattle.std.proofs.Common.{◌≡◌, ⊎_elim, ℕ, ◌+◌, ◌-◌, ◌<◌, ◌≤◌, Bool, true, false, not, ◌&&◌, ◌||◌, ◌==◌, List, []}
-use Rattle.std.proofs.Common.{◌∷◌, Option, Some, None, get_or, length, arith, refl, sym, ap, ◌∙◌, subst, true≢false}
-use Rattle.std.specs.Prelude.{slice_range, if◌then◌else◌}
+use Rattle.std.proofs.Common.{◌≡◌, ⊎_elim, ℕ, ◌+◌, ◌-◌, ◌<◌, ◌≤◌, Bool, true, false, not, ◌&&◌, ◌||◌, List, [], ◌∷◌}
+use Rattle.std.proofs.Common.{Option, Some, None, get_or, length, arith, refl, sym, ap, ◌∙◌, true≢false}
+use Rattle.std.specs.Prelude.{slice_range}
 use Rattle.std.specs.List.{list_all}
-use Rattle.std.specs.Option.{option_map}
 use Rattle.std.specs.Str.{IsCharBoundary, IsUtf8}
 use Rattle.std.proofs.lemmas.Bool.{cases_lt}
 use Rattle.std.proofs.lemmas.List.Sums.{AllPass-from_list_all}
-use Rattle.std.proofs.lemmas.Option.{none-some, same_Some}
+use Rattle.std.proofs.lemmas.Option.{same_Some}
 use Rattle.markdown_base.proofs.ByteListLemmas.{part_length}
 use Rattle.markdown_base.specs.Forest.{Forest}
 use Rattle.markdown_builder.specs.declared.open_block.OpenBlock.{OpenBlock}
-use Rattle.markdown_scan.specs.ContainerParts.{past_indent}
 use Rattle.markdown_scan.specs.LineStart.{LineLeft}
 use Rattle.markdown_base.specs.Source.{Source}
-use Rattle.markdown_lines.specs.Lines.{AllPass, IsLineFrom, is_in_blank_line, is_line_ending, is_space_or_tab}
+use Rattle.markdown_lines.specs.Lines.{AllPass, IsLineFrom, is_in_blank_line, is_space_or_tab}
 use Rattle.markdown_lines.specs.Positions.{IsSpaceAt}
-use Rattle.markdown_lines.specs.SourceLines.{SourceLine, is_blank_rest, rest_inside}
+use Rattle.markdown_lines.specs.SourceLines.{SourceLine, is_blank_rest}
 use Rattle.markdown_lines.specs.declared.line.Line.{Line}
 use Rattle.markdown_lines.specs.declared.position.Position.{Position}
 use Rattle.markdown_lines.specs.declared.space.Space.{Space}
@@ -24,53 +22,49 @@ use Rattle.markdown_lines.proofs.LinesLemmas.{AllPass-none}
 use Rattle.markdown_lines.proofs.PositionsLemmas.{in_part}
 use Rattle.markdown_block_rules.specs.BlockGrowth as was
 use Rattle.markdown_block_rules.specs.BlockGrowth.{Block, Kind, is_nil}
-use Rattle.markdown_block_rules.specs.BlockRules.{block_end}
 use Rattle.markdown_plain.specs.declared.containers.Reached as code
 use Rattle.markdown_plain.specs.declared.pass.Pass.{Pass}
-use Rattle.markdown_plain.specs.Closable.{AreClosable, AreContainers, IsReady, IsReadyAfter, has_quote, leaf_end}
+use Rattle.markdown_plain.specs.Closable.{AreClosable, IsReady, IsReadyAfter, has_quote, leaf_end}
 use Rattle.markdown_plain.specs.Fits.{IsInLeaf, MayAddAfter, MayAddBefore, MayAddLine}
 use Rattle.markdown_plain.specs.Frames.{Frame, inside_container, is_quote as is_quote_kind, reached, reached_past}
 use Rattle.markdown_plain.specs.Frames.{rebuilt}
-use Rattle.markdown_plain.specs.OpenBlocks.{innermost_is, is_quote, is_table, without_leaf}
-use Rattle.markdown_plain.specs.OpenLeaves.{IsLeafIn, is_leaf, leaf_block}
-use Rattle.markdown_builder.specs.TreeLevels.{followed_by}
-use Rattle.markdown_plain.specs.Paragraphs.{lines_end}
+use Rattle.markdown_plain.specs.OpenBlocks.{without_leaf}
+use Rattle.markdown_plain.specs.Paragraphs.{source_of}
 use Rattle.markdown_plain.specs.ReachedLines.{Before, IsReachedBy, blocks_in, reached_of}
-use Rattle.markdown_plain.specs.Settled.{AreOpen, IsBodyOf}
+use Rattle.markdown_plain.specs.Settled.{AreOpen}
 use Rattle.markdown_plain.proofs.BlankLinesLemmas.{goes_on_in, indented_alike, note_alike}
 use Rattle.markdown_plain.proofs.BlanksKnownLemmas.{has_quote as quotes_in}
 use Rattle.markdown_plain.proofs.ClosableLemmas.{innermost_no_row, leaf_end_here, no_task, none_ahead, no_paragraph}
 use Rattle.markdown_plain.proofs.ClosableLemmas.{white_both}
-use Rattle.markdown_plain.proofs.FittingLemmas.{open_in_leaf, space_ahead, space_stops}
-use Rattle.markdown_plain.proofs.LeavesInPlaceLemmas.{leaf_end as placed_leaf_end}
-use Rattle.markdown_plain.proofs.OpenBlocksLemmas.{around_leaf}
-use Rattle.markdown_plain.proofs.OpenTablesLemmas.{without_built, without_closable}
-use Rattle.markdown_plain.proofs.ReadyPlacesLemmas.{built_plain, are_bodies, ending_white, next_between, ready_after}
+use Rattle.markdown_plain.proofs.FramesInsideLemmas.{quote_alike}
+use Rattle.markdown_plain.proofs.FittingLemmas.{space_ahead, space_stops}
+use Rattle.markdown_plain.proofs.OpenTablesLemmas.{without_closable}
+use Rattle.markdown_plain.proofs.ReadyPlacesLemmas.{ending_white, next_between, stop_between}
 use Rattle.markdown_plain.proofs.TextReachedLemmas.{reached_within, whole_within}
 
 -- ---- a line
+
+-- a line of the text that the pass reads ends between characters
+pub stop_read : {text : List ℕ} {s : Source} (pass : Pass) (line : Line) → text ≡ s.text → source_of pass ≡ s
+    → IsLineFrom pass.placing.builder.text line.start line → IsCharBoundary text line.stop
+stop_read {text} {s} pass line same source is =
+    let here : pass.placing.builder.text ≡ text = ap (λ (s : Source). s.text) source ∙ sym same in
+    rw here at (stop_between pass.placing.builder.text line.start line.stop is.content)
 
 -- a line is white space, with its ending, where its content is
 white_line : (text : List ℕ) (line : Line) → IsLineFrom text line.start line
     → list_all is_space_or_tab (slice_range text line.start line.stop) ≡ true
     → AllPass is_in_blank_line text line.start line.next
 white_line text line is white = λ k low high.
-    ⊎_elim (λ (less : k < line.stop). content k low less)
-    (λ (more : line.stop ≤ k). ending_white text line.start line is k more high)
-    (cases_lt k line.stop)
-  where
-    content : (k : ℕ) → line.start ≤ k → k < line.stop → is_in_blank_line (get_or text k 0) ≡ true
-    content k low less =
-        let bytes = slice_range text line.start line.stop in
-        let size = part_length text line.start line.stop is.content.high in
-        let inside : k - line.start < length bytes = omega (arith, size, low, less) in
-        let place : line.start + (k - line.start) ≡ k = omega (arith, low) in
-        let there = in_part text bytes line.start line.stop (k - line.start) refl inside in
-        let here : is_space_or_tab (get_or text k 0) ≡ true =
-        ap (λ n. is_space_or_tab (get_or text n 0)) (sym place)
-        ∙ (ap is_space_or_tab (sym there.byte)
-        ∙ AllPass-from_list_all is_space_or_tab bytes white (k - line.start) 0 inside) in
-        ap (λ t. t || is_line_ending (get_or text k 0)) here
+    ⊎_elim (λ (less : k < line.stop).
+    let bytes = slice_range text line.start line.stop in
+    let inside : k - line.start < length bytes =
+    omega (arith, part_length text line.start line.stop is.content.high, low, less) in
+    let place : line.start + (k - line.start) ≡ k = omega (arith, low) in
+    let there = in_part text bytes line.start line.stop (k - line.start) refl inside in
+    let passes = AllPass-from_list_all is_space_or_tab bytes white (k - line.start) 0 inside in
+    let here : is_space_or_tab (get_or text k 0) ≡ true = rw place at (rw there.byte at passes) in
+    rw here refl) (λ (more : line.stop ≤ k). ending_white text line.start line is k more high) (cases_lt k line.stop)
 
 -- ---- places in a line
 
@@ -92,56 +86,35 @@ place_reached s old line found before source by =
     (whole_within old line source by.is) in
     let same : found.position.at ≡ (reached_of s before source).rest.left.scanned =
     ap (λ (left : LineLeft). left.scanned) by.reaches.rest.left in
-    let low = within.low in
-    let stop = by.reaches.stop in
-    let ends = by.is.from.ends in
     record {
-      low = omega (arith, same, low);
-      high = omega (arith, same, stop);
-      boundary = subst (IsCharBoundary text) (sym same) within.boundary;
-      ends = omega (arith, ends);
+      low = omega (arith, same, within.low);
+      high = omega (arith, same, by.reaches.stop);
+      boundary = rw same within.boundary;
+      ends = omega (arith, by.is.from.ends);
       next = next_between text line.start line by.is.utf8 by.is.from;
     }
 
 -- so is its beginning
-pub place_first : (s : Source) (old : Pass) (line : Line) (found : code.Reached) (before : Before)
-    (source : SourceLine) → IsReachedBy s old line found before source
-    → IsPlaceIn old.placing.builder.text line line.start
+pub place_first : (s : Source) (old : Pass) (line : Line) (found : code.Reached) (before : Before) (source : SourceLine)
+    → IsReachedBy s old line found before source → IsPlaceIn old.placing.builder.text line line.start
 place_first s old line found before source by =
     let reached = place_reached s old line found before source by in
-    let low = reached.low in
-    let high = reached.high in
-    record {
-      low = omega arith;
-      high = omega (arith, low, high);
-      boundary = by.is.boundary;
-      ends = reached.ends;
-      next = reached.next;
-    }
+    let high : line.start ≤ line.stop = omega (arith, reached.low, reached.high) in
+    let low : line.start ≤ line.start = omega arith in assumption (low, high, by.is.boundary, reached)
 
 -- and the place after white space
 pub place_after_space : (text : List ℕ) (line : Line) (position : Position) (most : ℕ) (read : Space) → IsUtf8 text
-    → IsSpaceAt text position line.stop most read → IsPlaceIn text line position.at
-    → IsPlaceIn text line read.after.at
+    → IsSpaceAt text position line.stop most read → IsPlaceIn text line position.at → IsPlaceIn text line read.after.at
 place_after_space text line position most read utf8 is place =
     let ahead = space_ahead text position line.stop most read utf8 is place.boundary in
-    let low = place.low in
-    let more = ahead.1 in
-    record {
-      low = omega (arith, low, more);
-      high = space_stops text position line.stop most read is place.high;
-      boundary = ahead.0;
-      ends = place.ends;
-      next = place.next;
-    }
+    let low : line.start ≤ read.after.at = omega (arith, place.low, ahead.1) in
+    assumption (low, space_stops text position line.stop most read is place.high, ahead.0, place)
 
 -- ---- lines in the open leaf
 
 -- where a leaf is open, it ends here
 open_leaf_end : (pass : Pass) → pass.placing.builder.leaf ≡ true → leaf_end pass ≡ pass.placing.builder.at
-open_leaf_end pass leaf =
-    ap (λ test. if not test && not (length pass.lines.items == 0) then lines_end pass.lines.items
-    else pass.placing.builder.at) leaf
+open_leaf_end pass leaf = rw leaf refl
 
 -- items fit into it
 leaf_fits : (pass : Pass) (from : ℕ) → IsReady pass from → pass.placing.builder.leaf ≡ true
@@ -152,65 +125,22 @@ leaf_fits pass from ready leaf =
 -- and the rest of the next line
 pub line_fits : (pass : Pass) (line : Line) (at : ℕ) → IsReady pass line.start → pass.placing.builder.leaf ≡ true
     → IsPlaceIn pass.placing.builder.text line at → MayAddLine pass.placing.builder at line.next
-line_fits pass line at ready leaf place =
-    let end = open_leaf_end pass leaf in
-    let low = ready.closable.low in
-    let next = ready.low in
-    let after = place.low in
-    record {
-      inside = leaf_fits pass line.start ready leaf;
-      ahead = (omega (arith, end, low, next, after), place.boundary);
-      next = place.next;
-    }
+line_fits pass line at ready leaf place = record {
+  inside = leaf_fits pass line.start ready leaf;
+  ahead = (omega (arith, open_leaf_end pass leaf, ready.closable.low, ready.low, place.low), place.boundary);
+  next = place.next;
+}
 
 -- after the lines that were held back too
-pub line_fits_after : (pass : Pass) (line : Line) (at : ℕ) → IsReady pass line.start
-    → pass.placing.builder.leaf ≡ true → IsPlaceIn pass.placing.builder.text line at
-    → MayAddAfter pass.placing.builder pass.blanks.items at line.next
+pub line_fits_after : (pass : Pass) (line : Line) (at : ℕ) → IsReady pass line.start → pass.placing.builder.leaf ≡ true
+    → IsPlaceIn pass.placing.builder.text line at → MayAddAfter pass.placing.builder pass.blanks.items at line.next
 line_fits_after pass line at ready leaf place =
     let held = ready.blanks leaf in
-    let low = held.low in
-    let after = place.low in
     record {
-      before = record { may = held.may; low = omega (arith, low, after) };
+      before = record { may = held.may; low = omega (arith, held.low, place.low) };
       boundary = place.boundary;
       next = place.next;
     }
-
--- ---- leaves
-
--- after the last line of a leaf, or after one with which it has not ended
-pub leaf_ready : (s : Source) (pass : Pass) (frames : List Frame) (inside : Forest Block) (b : Block) (ended : Bool)
-    (to : ℕ) → is_leaf b.kind ≡ true → IsLeafIn s pass.placing.builder frames inside b ended
-    → pass.lines.items ≡ [] → pass.blanks.items ≡ [] → block_end b b.first b.kind ≡ to
-    → IsCharBoundary pass.placing.builder.text to → IsReadyAfter pass to
-leaf_ready s pass frames inside b true to leaf is lines blanks end boundary =
-    let view = pass.placing.builder in
-    let are = are_bodies view.texts view.blocks frames is.built.blocks in
-    ready_after pass to (record {
-      at = is.at ∙ (placed_leaf_end frames inside b leaf ∙ end);
-      boundary = boundary;
-      lines = lines;
-      blanks = blanks;
-      containers = subst AreContainers
-          (sym (without_built s view frames (followed_by inside (leaf_block b)) is.built)) are;
-      leaf = λ there. absurd (true≢false (sym there ∙ is.built.outside));
-      plain = built_plain s view frames (followed_by inside (leaf_block b)) is.built;
-    })
-leaf_ready s pass frames inside b false to leaf is lines blanks end boundary =
-    let view = pass.placing.builder in
-    let in_it = open_in_leaf s view frames inside b leaf is in
-    let without = around_leaf view is.outer is.block
-    (ap (λ test. test || innermost_is is_table view.blocks) is.leaf) is.blocks in
-    ready_after pass to (record {
-      at = is.end ∙ (placed_leaf_end frames inside b leaf ∙ end);
-      boundary = boundary;
-      lines = lines;
-      blanks = blanks;
-      containers = subst AreContainers (sym without) (are_bodies view.texts is.outer frames is.around.blocks);
-      leaf = λ there. in_it;
-      plain = in_it.plain;
-    })
 
 -- ---- blank lines
 
@@ -220,16 +150,7 @@ quotes_alike texts [] [] are = refl
 quotes_alike texts [] (f ∷ frames) are = absurd are
 quotes_alike texts (block ∷ blocks) [] are = absurd are
 quotes_alike texts (block ∷ blocks) (f ∷ frames) are =
-    ap (λ t. t || has_quote blocks) (one f.block.kind are.0.body)
-    ∙ ap (λ t. is_quote_kind f.block.kind || t) (quotes_alike texts blocks frames are.1)
-  where
-    one : (kind : Kind) → IsBodyOf texts kind block.body → is_quote block.body ≡ is_quote_kind kind
-    one was.quote_container body = ap is_quote body
-    one (was.alert_container kind) body = ap is_quote body
-    one (was.list_container marker) body = ap is_quote body
-    one (was.item_container indent) body = ap is_quote body
-    one (was.footnote_container label) body = ap is_quote body.1
-    one other body = absurd body
+    rw (quote_alike texts f.block.kind block.body are.0.body, quotes_alike texts blocks frames are.1) refl
 
 -- what a container other than a block quote leaves of a line is as blank as the line
 taken_alike : (s : Source) (l m : SourceLine) (empty : Bool) (kind : Kind) → is_quote_kind kind ≡ false
@@ -260,8 +181,7 @@ unquoted_alike s (f ∷ frames) inside l none =
     second true b e = absurd (true≢false e)
     second false b e = e
 
-    past : (rest : Option SourceLine)
-        → inside_container s l (is_nil (rebuilt frames inside)) f.block.kind ≡ rest
+    past : (rest : Option SourceLine) → inside_container s l (is_nil (rebuilt frames inside)) f.block.kind ≡ rest
         → ((m : SourceLine) → quotes_in (reached s frames inside m).outer ≡ false
         → is_blank_rest (reached s frames inside m).rest ≡ is_blank_rest m)
         → quotes_in (reached_past f frames l (reached s frames inside) rest).outer ≡ false
@@ -301,35 +221,29 @@ blank_moves s old line found before source placed texts blocks by blank sees are
     next : IsCharBoundary text line.next
     next = next_between text line.start line by.is.utf8 by.is.from
 
+    place : IsPlaceIn text line line.start
+    place = place_first s old line found before source by
+
     by_white : (white : Bool) → is_blank_rest source ≡ white
         → MovesOver old.placing.builder.text blocks old.placed placed line.next
     by_white true is =
         let ready = by.stands.ready in
-        let low = ready.low in
-        let place = place_first s old line found before source by in
-        let high = place.high in
-        let ends = place.ends in
         let bytes = ap (λ (left : LineLeft). list_all is_space_or_tab left.bytes) by.is.left ∙ is in
-        subst (λ n. MovesOver text blocks old.placed n line.next) (sym (sees.stays is)) (record {
+        rw (sees.stays is) (record {
           low = omega arith;
-          high = omega (arith, low, high, ends);
+          high = omega (arith, ready.low, place.high, place.ends);
           boundary = ready.closable.boundary;
           next = next;
           before = λ none. AllPass-none is_in_blank_line text old.placed;
           after = white_both text old.placed line.start line.next ready.white (white_line text line by.is.from bytes);
         })
     by_white false is =
-        let low = by.stands.ready.low in
-        let place = place_first s old line found before source by in
-        let high = place.high in
-        let ends = place.ends in
-        subst (λ n. MovesOver text blocks old.placed n line.next) (sym (sees.moves is)) (record {
-          low = omega (arith, low, high, ends);
+        rw (sees.moves is) (record {
+          low = omega (arith, by.stands.ready.low, place.high, place.ends);
           high = omega arith;
           boundary = next;
           next = next;
-          before = λ none. absurd (true≢false (sym blank
-              ∙ (unquoted_alike s before.frames (blocks_in before) source
+          before = λ none. absurd (true≢false (sym blank ∙ (unquoted_alike s before.frames (blocks_in before) source
               (sym (quotes_alike texts blocks (reached_of s before source).outer are) ∙ none) ∙ is)));
           after = AllPass-none is_in_blank_line text line.next;
         })
@@ -353,12 +267,11 @@ read_ready pass to is =
         other = innermost_no_row view.blocks is.closable.containers;
         held = λ outside. none_ahead view pass.lines.items is.lines;
         task = no_task view.text pass.task pass.lines.items is.lines;
-        containers = subst AreContainers (sym without) is.closable.containers;
+        containers = rw without is.closable.containers;
         alone = λ has. absurd (true≢false (sym has ∙ no_paragraph pass is.lines));
-        low = subst (λ n. n ≤ pass.placed) (sym here) is.closable.low;
+        low = rw here is.closable.low;
         boundary = is.closable.boundary;
-        white = λ none. subst (λ n. AllPass is_in_blank_line view.text n pass.placed) (sym here)
-            (is.closable.white (ap has_quote (sym without) ∙ none));
+        white = λ none. rw here (is.closable.white (rw without at none));
       };
       low = is.low;
       boundary = is.boundary;
@@ -372,21 +285,19 @@ pub closed_ready : (old new : Pass) (to : ℕ) → AreClosable new.placing.build
     → MovesOver old.placing.builder.text new.placing.builder.blocks old.placed new.placed to → IsReady new to
 closed_ready old new to closable lines text moves =
     let view = new.placing.builder in
-    let at = closable.low in
-    let low = moves.low in
     read_ready new to (record {
       closable = record {
         outside = closable.outside;
         containers = closable.containers;
-        low = omega (arith, at, low);
-        boundary = subst (λ t. IsCharBoundary t new.placed) (sym text) moves.boundary;
+        low = omega (arith, closable.low, moves.low);
+        boundary = rw text moves.boundary;
         white = λ none. white_both view.text view.at old.placed new.placed (closable.white none)
-            (subst (λ t. AllPass is_in_blank_line t old.placed new.placed) (sym text) (moves.before none));
+            (rw text (moves.before none));
       };
       lines = lines;
       low = moves.high;
-      boundary = subst (λ t. IsCharBoundary t to) (sym text) moves.next;
-      white = subst (λ t. AllPass is_in_blank_line t new.placed to) (sym text) moves.after;
+      boundary = rw text moves.next;
+      white = rw text moves.after;
     })
 
 -- after one that is held back
@@ -395,50 +306,22 @@ pub held_ready : (old now : Pass) (from to : ℕ) → IsReady old from
     → MovesOver old.placing.builder.text (without_leaf old.placing.builder) old.placed now.placed to
     → IsReady (record old { blanks = now.blanks; looseness = now.looseness; placed = now.placed }) to
 held_ready old now from to ready held moves =
-    let text = old.placing.builder.text in
-    let end = ready.closable.low in
-    let low = moves.low in
-    record {
-      closable = record {
-        some = ready.closable.some;
-        other = ready.closable.other;
-        held = ready.closable.held;
-        task = ready.closable.task;
-        containers = ready.closable.containers;
-        alone = ready.closable.alone;
-        low = omega (arith, end, low);
-        boundary = moves.boundary;
-        white = λ none. white_both text (leaf_end old) old.placed now.placed (ready.closable.white none)
-            (moves.before none);
-      };
-      low = moves.high;
-      boundary = moves.next;
-      white = moves.after;
-      blanks = λ leaf. held;
-    }
+    let low : leaf_end old ≤ now.placed = omega (arith, ready.closable.low, moves.low) in
+    assumption (
+      low,
+      ready,
+      moves,
+      λ (leaf : old.placing.builder.leaf ≡ true). held,
+      λ (none : has_quote (without_leaf old.placing.builder) ≡ false). white_both old.placing.builder.text
+          (leaf_end old) old.placed now.placed (ready.closable.white none) (moves.before none),
+    )
 
 -- ---- lines that are not blank
 
 -- once it is recorded that such a line was read
 pub seen_ready : (old now : Pass) (to : ℕ) → IsReadyAfter old to
     → IsReady (record old { looseness = now.looseness; placed = to }) to
-seen_ready old now to ready = record {
-  closable = record {
-    some = ready.closable.some;
-    other = ready.closable.other;
-    held = ready.closable.held;
-    task = ready.closable.task;
-    containers = ready.closable.containers;
-    alone = ready.closable.alone;
-    low = ready.closable.low;
-    boundary = ready.closable.boundary;
-    white = ready.closable.white;
-  };
-  low = ready.low;
-  boundary = ready.boundary;
-  white = ready.white;
-  blanks = ready.blanks;
-}
+seen_ready old now to ready = assumption (ready)
 
 -- ---- the end
 
@@ -447,8 +330,7 @@ pub white_at_end : (old new : Pass) (from : ℕ) → IsReady old from → AreClo
     → new.placing.builder.blocks ≡ [] → new.placing.builder.text ≡ old.placing.builder.text
     → length new.placing.builder.text ≤ from
     → AllPass is_in_blank_line new.placing.builder.text new.placing.builder.at (length new.placing.builder.text)
-white_at_end old new from ready closable none text end =
+white_at_end old new from ready closable none text end k low high =
     let view = new.placing.builder in
-    let all = white_both view.text view.at old.placed from (closable.white (ap has_quote none))
-    (subst (λ t. AllPass is_in_blank_line t old.placed from) (sym text) ready.white) in
-    λ k low high. all k low (omega (arith, high, end))
+    white_both view.text view.at old.placed from (closable.white (ap has_quote none)) (rw text ready.white) k low
+    (omega (arith, high, end))

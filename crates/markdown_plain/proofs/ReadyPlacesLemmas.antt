@@ -1,6 +1,5 @@
 -- What a placed line leaves is ready for the next one: a leaf is open, or none, and nothing is held back.
-use Rattle.std.proofs.Common.{◌≡◌, ℕ, zero, suc, ◌+◌, ◌-◌, ◌<◌, ◌≤◌, Bool, true, false, not, ◌||◌, List, [], ◌∷◌}
-use Rattle.std.proofs.Common.{Option}
+use Rattle.std.proofs.Common.{◌≡◌, ℕ, zero, suc, ◌+◌, ◌-◌, ◌<◌, ◌≤◌, Bool, true, false, not, List, [], ◌∷◌, Option}
 use Rattle.std.proofs.Common.{Some, None, get_or, length, drop, take, ⊎_elim, refl, sym, ap, ◌∙◌, subst, arith}
 use Rattle.std.specs.Prelude.{slice_index}
 use Rattle.std.specs.List.{list_all}
@@ -17,28 +16,27 @@ use Rattle.markdown_base.specs.declared.item.ItemBody.{ItemBody}
 use Rattle.markdown_base.specs.declared.item.ItemBody.TheVariants as body
 use Rattle.markdown_builder.specs.declared.open_block.OpenBlock.{OpenBlock}
 use Rattle.markdown_base.specs.Source.{Source}
-use Rattle.markdown_lines.specs.Lines.{AllPass, IsLineEnd, IsLineFrom, ending_length, is_in_blank_line}
-use Rattle.markdown_lines.specs.Lines.{is_line_ending, is_space_or_tab}
+use Rattle.markdown_lines.specs.Lines.{AllPass, IsLineEnd, IsLineFrom, ending_length, is_in_blank_line, is_line_ending}
+use Rattle.markdown_lines.specs.Lines.{is_space_or_tab}
 use Rattle.markdown_lines.specs.SourceLines.{SourceLine}
-use Rattle.markdown_lines.specs.declared.held_line.HeldLine.{HeldLine}
 use Rattle.markdown_lines.specs.declared.line.Line.{Line}
 use Rattle.markdown_lines.proofs.HeldLinesLemmas.{ends_within, line_left}
 use Rattle.markdown_lines.proofs.LinesAheadLemmas.{in_ending}
 use Rattle.markdown_lines.proofs.LinesLemmas.{ending_ascii}
 use Rattle.markdown_lines.proofs.TitleLemmas.{ending_bytes}
-use Rattle.markdown_block_rules.specs.BlockGrowth as was
-use Rattle.markdown_block_rules.specs.BlockGrowth.{Block, Kind}
+use Rattle.markdown_block_rules.specs.BlockGrowth.{Block}
 use Rattle.markdown_plain.specs.declared.pass.Pass.{Pass}
 use Rattle.markdown_plain.specs.Closable.{AreContainers, IsReadyAfter, leaf_end}
 use Rattle.markdown_plain.specs.Containers.{is_container}
-use Rattle.markdown_plain.specs.Fits.{IsInLeaf, MayAddBefore}
+use Rattle.markdown_plain.specs.Fits.{IsInLeaf}
 use Rattle.markdown_plain.specs.Frames.{Frame}
 use Rattle.markdown_plain.specs.OpenBlocks.{is_table, without_leaf}
 use Rattle.markdown_plain.specs.OpenLeaves as leaves
 use Rattle.markdown_plain.specs.OpenLeaves.{IsOpenIn, IsUnended, is_leaf}
-use Rattle.markdown_plain.specs.Settled.{AreOpen, IsBodyOf, IsBuilt}
+use Rattle.markdown_plain.specs.Settled.{AreOpen}
 use Rattle.markdown_plain.specs.Standing.{PlacesLast}
 use Rattle.markdown_plain.proofs.ClosableLemmas.{innermost_no_row, leaf_end_here, no_task, none_ahead, no_paragraph}
+use Rattle.markdown_plain.proofs.FramesInsideLemmas.{tests_alike}
 use Rattle.markdown_plain.proofs.FittingLemmas.{open_in_leaf}
 use Rattle.markdown_plain.proofs.OpenTablesLemmas.{body_innermost, table_shown, without_built, without_open}
 
@@ -48,13 +46,11 @@ use Rattle.markdown_plain.proofs.OpenTablesLemmas.{body_innermost, table_shown, 
 pub ending_white : (text : List ℕ) (at : ℕ) (line : Line) → IsLineFrom text at line
     → AllPass is_in_blank_line text line.stop line.next
 ending_white text at line is = λ k more high.
-    let ends = is.ends in
     let place : line.stop + (k - line.stop) ≡ k = omega (arith, more) in
-    let here : is_line_ending (get_or text k 0) ≡ true =
-    ap (λ n. is_line_ending (get_or text n 0)) (sym place)
-    ∙ (ap is_line_ending (sym (get_or-drop line.stop text (k - line.stop) 0))
-    ∙ in_ending (drop line.stop text) (k - line.stop) (omega (arith, more, high, ends))) in
-    ap (λ t. is_space_or_tab (get_or text k 0) || t) here ∙ or-true (is_space_or_tab (get_or text k 0))
+    let there = get_or-drop line.stop text (k - line.stop) 0 in
+    let ends = in_ending (drop line.stop text) (k - line.stop) (omega (arith, more, high, is.ends)) in
+    let here : is_line_ending (get_or text k 0) ≡ true = rw place at (rw there at ends) in
+    rw here (or-true (is_space_or_tab (get_or text k 0)))
 
 byte_passes : (test : ℕ → Bool) (bytes : List ℕ) (at : ℕ) → list_all test bytes ≡ true → at < length bytes
     → test (get_or bytes at 0) ≡ true
@@ -79,22 +75,17 @@ pub next_between : (text : List ℕ) (from : ℕ) (line : Line) → IsUtf8 text 
 next_between text from line utf8 is =
     let rest = drop line.stop text in
     let n = ending_length rest in
-    let high = is.content.high in
-    let ends = is.ends in
     ⊎_elim (λ (some : 0 < n).
     let few = ends_within rest in
-    let size = length-take n rest in
-    let whole = length-drop line.stop text in
     let passes = ending_bytes rest (line_left text line.stop is.content.high is.content.stops) in
-    let last = byte_passes is_line_ending (take n rest) (n - 1) passes (omega (arith, some, few, size)) in
+    let last = byte_passes is_line_ending (take n rest) (n - 1) passes (omega (arith, some, few, length-take n rest)) in
     let byte : get_or (take n rest) (n - 1) 0 ≡ get_or text (line.stop + (n - 1)) 0 =
     get_or-take n rest (n - 1) 0 (omega (arith, some)) ∙ get_or-drop line.stop text (n - 1) 0 in
     let ascii = ending_ascii (get_or (take n rest) (n - 1) 0) last in
-    let place : (line.stop + (n - 1)) + 1 ≡ line.next = omega (arith, some, ends) in
-    subst (IsCharBoundary text) place
-    (IsCharBoundary-after_ascii text (line.stop + (n - 1)) utf8 (omega (arith, some, few, whole, high))
-    (omega (arith, ascii, byte))))
-    (λ (none : n ≤ 0). subst (IsCharBoundary text) (omega (arith, none, ends))
+    let place : (line.stop + (n - 1)) + 1 ≡ line.next = omega (arith, some, is.ends) in
+    subst (IsCharBoundary text) place (IsCharBoundary-after_ascii text (line.stop + (n - 1)) utf8
+    (omega (arith, some, few, length-drop line.stop text, is.content.high)) (omega (arith, ascii, byte))))
+    (λ (none : n ≤ 0). subst (IsCharBoundary text) (omega (arith, none, is.ends))
     (stop_between text from line.stop is.content)) (cases_lt 0 n)
 
 -- ---- open containers
@@ -104,16 +95,11 @@ pub are_bodies : (texts : List (List ℕ)) (blocks : List OpenBlock) (frames : L
     → AreContainers blocks
 are_bodies texts [] frames are = tt
 are_bodies texts (block ∷ blocks) [] are = absurd are
-are_bodies texts (block ∷ blocks) (f ∷ frames) are =
-    (of_kind f.block.kind are.0.body, are_bodies texts blocks frames are.1)
-  where
-    of_kind : (kind : Kind) → IsBodyOf texts kind block.body → is_container block.body ≡ true
-    of_kind was.quote_container body = ap is_container body
-    of_kind (was.alert_container kind) body = ap is_container body
-    of_kind (was.list_container marker) body = ap is_container body
-    of_kind (was.item_container indent) body = ap is_container body
-    of_kind (was.footnote_container label) body = ap is_container body.1
-    of_kind other body = absurd body
+are_bodies texts (block ∷ blocks) (f ∷ frames) are = (
+  tests_alike is_container (λ kind. true) refl (λ kind. refl) (λ marker. refl) (λ indent. refl) (λ ix label. refl)
+      texts f.block.kind block.body are.0.body,
+  are_bodies texts blocks frames are.1,
+)
 
 -- and where none are open, there are none of them
 pub no_frames : (texts : List (List ℕ)) (blocks : List OpenBlock) (frames : List Frame) → AreOpen texts blocks frames
@@ -122,28 +108,8 @@ no_frames texts [] [] are none = refl
 no_frames texts [] (f ∷ frames) are none = absurd are
 no_frames texts (block ∷ blocks) frames are none = absurd (omega (arith, ap length none))
 
--- the blocks around what is built are containers
-built_containers : (s : Source) (view : BuilderView) (frames : List Frame) (inside : Forest Block)
-    → IsBuilt s view frames inside → AreContainers (without_leaf view)
-built_containers s view frames inside built =
-    subst AreContainers (sym (without_built s view frames inside built))
-    (are_bodies view.texts view.blocks frames built.blocks)
-
--- so the innermost of them is no row
-pub built_plain : (s : Source) (view : BuilderView) (frames : List Frame) (inside : Forest Block)
-    → IsBuilt s view frames inside → is_in_row view.blocks ≡ false
-built_plain s view frames inside built =
-    innermost_no_row view.blocks (are_bodies view.texts view.blocks frames built.blocks)
-
--- those around an open leaf block are
-pub leaf_containers : (s : Source) (view : BuilderView) (frames : List Frame) (inside : Forest Block) (b : Block)
-    → IsOpenIn s view frames inside (not (leaves.is_table b.kind)) b → AreContainers (without_leaf view)
-leaf_containers s view frames inside b is =
-    subst AreContainers (sym (without_open s view frames inside b is))
-    (are_bodies view.texts is.outer frames is.around.blocks)
-
--- it is no row
-pub no_row_open : (s : Source) (view : BuilderView) (frames : List Frame) (inside : Forest Block) (b : Block)
+-- an open leaf is no row
+no_row_open : (s : Source) (view : BuilderView) (frames : List Frame) (inside : Forest Block) (b : Block)
     → is_leaf b.kind ≡ true → IsOpenIn s view frames inside (not (leaves.is_table b.kind)) b
     → is_in_row view.blocks ≡ false
 no_row_open s view frames inside b leaf is = decided (leaves.is_table b.kind) refl
@@ -154,12 +120,9 @@ no_row_open s view frames inside b leaf is = decided (leaves.is_table b.kind) re
 
     decided : (table : Bool) → leaves.is_table b.kind ≡ table → is_in_row view.blocks ≡ false
     decided true table =
-        body_innermost s view frames inside b (not (leaves.is_table b.kind)) is_table_row is
-        ∙ no_row is.block.body
+        body_innermost s view frames inside b (not (leaves.is_table b.kind)) is_table_row is ∙ no_row is.block.body
         (table_shown s view frames inside b (not (leaves.is_table b.kind)) b.kind refl table is)
-    decided false other =
-        (open_in_leaf s view frames inside b leaf
-        (subst (λ in_leaf. IsOpenIn s view frames inside in_leaf b) (ap not other) is)).plain
+    decided false other = (open_in_leaf s view frames inside b leaf (rw other at is)).plain
 
 -- ---- nothing is held back
 
@@ -186,43 +149,48 @@ ready_after pass to is =
         task = no_task view.text pass.task pass.lines.items is.lines;
         containers = is.containers;
         alone = λ has. absurd (true≢false (sym has ∙ no_paragraph pass is.lines));
-        low = subst (λ n. n ≤ to) (sym here) (omega arith);
+        low = omega (arith, here);
         boundary = is.boundary;
         white = λ e at low high. absurd (omega (arith, here, low, high));
       };
       low = omega arith;
       boundary = is.boundary;
       white = λ at low high. absurd (omega (arith, low, high));
-      blanks = λ leaf. subst (λ (lines : List HeldLine). MayAddBefore view lines to) (sym is.blanks) (record {
-        may = record { inside = is.leaf leaf; are = tt };
-        low = let at = is.at in omega (arith, at);
-      });
+      blanks = λ leaf. rw is.blanks
+          (record { may = record { inside = is.leaf leaf; are = tt }; low = omega (arith, is.at) });
     }
 
 -- so it is where the last block is ended, or is an open leaf
 pub ready_last : (s : Source) (pass : Pass) (frames : List Frame) (inside : Forest Block) (last : Option Block) (to : ℕ)
     → PlacesLast s pass frames inside last → pass.lines.items ≡ [] → pass.blanks.items ≡ []
     → pass.placing.builder.at ≡ to → IsCharBoundary pass.placing.builder.text to → IsReadyAfter pass to
-ready_last s pass frames inside None to places lines blanks at boundary = ready_after pass to (record {
-  lines = lines;
-  blanks = blanks;
-  at = at;
-  boundary = boundary;
-  containers = built_containers s pass.placing.builder frames inside places.0.built;
-  leaf = λ leaf. absurd (true≢false (sym leaf ∙ places.0.built.outside));
-  plain = built_plain s pass.placing.builder frames inside places.0.built;
-})
-ready_last s pass frames inside (Some b) to places lines blanks at boundary = by_held places.0 places.1
-  where
-    by_held : (held : Option (List SourceLine)) → IsUnended s pass frames inside b held → IsReadyAfter pass to
-    by_held None is = ready_after pass to (record {
+ready_last s pass frames inside None to places lines blanks at boundary =
+    let view = pass.placing.builder in
+    let built = places.0.built in
+    let are = are_bodies view.texts view.blocks frames built.blocks in
+    ready_after pass to (record {
       lines = lines;
       blanks = blanks;
       at = at;
       boundary = boundary;
-      containers = leaf_containers s pass.placing.builder frames inside b is.1;
-      leaf = λ leaf. open_in_leaf s pass.placing.builder frames inside b is.0
-          (subst (λ in_leaf. IsOpenIn s pass.placing.builder frames inside in_leaf b) (sym is.1.leaf ∙ leaf) is.1);
-      plain = no_row_open s pass.placing.builder frames inside b is.0 is.1;
+      containers = rw (without_built s view frames inside built) are;
+      leaf = λ leaf. absurd (true≢false (sym leaf ∙ built.outside));
+      plain = innermost_no_row view.blocks are;
     })
+ready_last s pass frames inside (Some b) to places lines blanks at boundary = by_held places.0 places.1
+  where
+    by_held : (held : Option (List SourceLine)) → IsUnended s pass frames inside b held → IsReadyAfter pass to
+    by_held None is =
+        let view = pass.placing.builder in
+        ready_after pass to (record {
+          lines = lines;
+          blanks = blanks;
+          at = at;
+          boundary = boundary;
+          containers = rw (without_open s view frames inside b is.1)
+              (are_bodies view.texts is.1.outer frames is.1.around.blocks);
+          leaf = λ leaf. open_in_leaf s view frames inside b is.0
+              (subst (λ in_leaf. IsOpenIn s view frames inside in_leaf b) (sym is.1.leaf ∙ leaf) is.1);
+          plain = no_row_open s view frames inside b is.0 is.1;
+        })
     by_held (Some sources) is = absurd (omega (arith, is.some, ap length lines))

@@ -23,16 +23,18 @@ use Rattle.markdown_block_rules.specs.BlockGrowth.{Block}
 use Rattle.markdown_block_rules.proofs.BlockBeginningsLemmas.{either}
 use Rattle.markdown_plain.specs.declared.pass.Pass.{Pass}
 use Rattle.markdown_plain.specs.Closable.{AreAhead, AreApart, AreClosable, AreContainers, AreInText, HasTask}
-use Rattle.markdown_plain.specs.Closable.{HaveTask, IsInText, IsReady, IsReadyAfter, has_quote, leaf_end}
-use Rattle.markdown_plain.specs.Fitting.{defining}
+use Rattle.markdown_plain.specs.Closable.{HaveTask, IsClosable, IsInText, IsReady, IsReadyAfter, has_quote, leaf_end}
 use Rattle.markdown_plain.specs.Frames.{Frame, reached}
 use Rattle.markdown_plain.specs.HeldSources.{AreInParagraph}
 use Rattle.markdown_plain.specs.OpenBlocks.{without_leaf}
-use Rattle.markdown_plain.specs.Paragraphs.{has_paragraph, is_item_in, lines_end, task_at}
+use Rattle.markdown_plain.specs.Paragraphs.{has_paragraph, is_item_in, lines_end, task_at, past}
 use Rattle.markdown_plain.specs.Standing.{IsSource}
 use Rattle.markdown_plain.specs.TextLines.{IsContentAt, held_line}
-use Rattle.markdown_plain.proofs.AddedLinesLemmas.{end_after, past, past_is_end}
+use Rattle.markdown_plain.proofs.AddedLinesLemmas.{end_after}
+use Rattle.markdown_plain.proofs.ParagraphsLemmas.{past_end}
+use Rattle.markdown_plain.specs.ParagraphSteps.{EndsTo}
 use Rattle.markdown_plain.proofs.ClosableLemmas.{innermost_no_row, leaf_end_here, no_paragraph, no_task, none_ahead}
+use Rattle.std.proofs.lemmas.Bool.{and_parts}
 use Rattle.markdown_plain.proofs.ClosableLemmas.{white_both}
 use Rattle.markdown_plain.proofs.HeldTextLemmas.{starts_after, starts_before}
 use Rattle.markdown_plain.proofs.OpenBlocksLemmas.{outside_leaf}
@@ -121,11 +123,6 @@ task_after : (text : List ℕ) (task : Option Bool) (lines more : List HeldLine)
     → HaveTask text task lines → HaveTask text task (lines ++ more)
 task_after text task [] more some has = absurd (omega (arith, some))
 task_after text task (line ∷ lines) more some has = has
-
--- lines end where the last of some lines does
-past_end : (from : ℕ) (lines : List HeldLine) → 0 < length lines → past from lines ≡ lines_end lines
-past_end from [] some = absurd (omega (arith, some))
-past_end from (line ∷ lines) some = sym (past_is_end line lines)
 
 -- what is read as a task marker is one
 read_task : (syntax : Syntax) (text : List ℕ) (line : HeldLine)
@@ -325,43 +322,49 @@ pub record EndsBefore (old new : Pass) : Type 0 where
   pub placed : new.placed ≡ old.placed
   pub emptied : new.lines.items ≡ []
   pub outside : new.placing.builder.leaf ≡ false
-  pub defines : new.placing.builder
-      ≡ defining old.placing.builder new.placing.builder.definitions new.placing.builder.at
-  pub after : new.placing.builder.at ≡ lines_end old.lines.items
+  pub ends : EndsTo old.placing.builder new.placing.builder (past old.placing.builder.at old.lines.items)
+
+ended_closable : (old new : Pass) → IsClosable old → has_paragraph old ≡ true → new.lines.items ≡ []
+    → new.placed ≡ old.placed
+    → EndsTo old.placing.builder new.placing.builder (past old.placing.builder.at old.lines.items) → IsClosable new
+ended_closable old new is has none placed e =
+    let was = old.placing.builder in
+    let now = new.placing.builder in
+    let text : now.text ≡ was.text = ap (λ (b : BuilderView). b.text) e in
+    let leaf : now.leaf ≡ was.leaf = ap (λ (b : BuilderView). b.leaf) e in
+    let blocks : now.blocks ≡ was.blocks = ap (λ (b : BuilderView). b.blocks) e in
+    let inner : without_leaf now ≡ without_leaf was = ap without_leaf e in
+    let held = (and_parts (not was.leaf) (not (length old.lines.items == 0)) has).1 in
+    let some : 0 < length old.lines.items = grind (arith, nat_tests, held) in
+    let end : leaf_end new ≡ leaf_end old =
+    leaf_end_here new none
+    ∙ (ap (λ (b : BuilderView). b.at) e ∙ (past_end was.at old.lines.items some
+    ∙ sym (ap (λ (t : Bool). if t then lines_end old.lines.items else was.at) has))) in
+    record {
+      some = λ inside empty. is.some (sym leaf ∙ inside) (sym blocks ∙ empty);
+      other = ap is_in_row blocks ∙ is.other;
+      held = λ outside. none_ahead now new.lines.items none;
+      task = no_task now.text new.task new.lines.items none;
+      containers = subst AreContainers (sym inner) is.containers;
+      alone = λ held. absurd (true≢false (sym held ∙ no_paragraph new none));
+      low = subst (λ n. n ≤ new.placed) (sym end) (subst (λ n. leaf_end old ≤ n) (sym placed) is.low);
+      boundary = subst (λ t. IsCharBoundary t new.placed) (sym text)
+          (subst (IsCharBoundary was.text) (sym placed) is.boundary);
+      white = λ quotes. subst (λ t. AllPass is_in_blank_line t (leaf_end new) new.placed) (sym text)
+          (subst (λ n. AllPass is_in_blank_line was.text n new.placed) (sym end)
+          (subst (AllPass is_in_blank_line was.text (leaf_end old)) (sym placed)
+          (is.white (ap has_quote (sym inner) ∙ quotes))));
+    }
 
 pub again_ready : (old new : Pass) (from : ℕ) → EndsBefore old new → IsReady old from → IsReady new from
-again_ready old new from ends ready =
-    let was = old.placing.builder in
+again_ready old new from is ready =
     let view = new.placing.builder in
-    let closable = ready.closable in
-    let text : view.text ≡ was.text = ap (λ (b : BuilderView). b.text) ends.defines in
-    let blocks : view.blocks ≡ was.blocks = ap (λ (b : BuilderView). b.blocks) ends.defines in
-    let outer : without_leaf view ≡ without_leaf was = ap without_leaf ends.defines in
-    let here : leaf_end new ≡ leaf_end old =
-    leaf_end_here new ends.emptied ∙ (ends.after
-    ∙ sym (ap {B = ℕ} (λ has. if has then lines_end old.lines.items else was.at) ends.held)) in
-    let low = closable.low in
-    let placed = ends.placed in
-    let before = ready.low in
+    let text : view.text ≡ old.placing.builder.text = ap (λ (b : BuilderView). b.text) is.ends in
     record {
-      closable = record {
-        some = λ leaf none. absurd (true≢false (sym leaf ∙ ends.outside));
-        other = ap is_in_row blocks ∙ closable.other;
-        held = λ outside. none_ahead view new.lines.items ends.emptied;
-        task = no_task view.text new.task new.lines.items ends.emptied;
-        containers = subst AreContainers (sym outer) closable.containers;
-        alone = λ has. absurd (true≢false (sym has ∙ no_paragraph new ends.emptied));
-        low = omega (arith, low, here, placed);
-        boundary = subst (IsCharBoundary view.text) (sym placed)
-            (subst (λ t. IsCharBoundary t old.placed) (sym text) closable.boundary);
-        white = λ none. subst (AllPass is_in_blank_line view.text (leaf_end new)) (sym placed)
-            (subst (λ n. AllPass is_in_blank_line view.text n old.placed) (sym here)
-            (subst (λ t. AllPass is_in_blank_line t (leaf_end old) old.placed) (sym text)
-            (closable.white (ap has_quote (sym outer) ∙ none))));
-      };
-      low = omega (arith, before, placed);
+      closable = ended_closable old new ready.closable is.held is.emptied is.placed is.ends;
+      low = omega (arith, ready.low, is.placed);
       boundary = subst (λ t. IsCharBoundary t from) (sym text) ready.boundary;
-      white = subst (λ n. AllPass is_in_blank_line view.text n from) (sym placed)
+      white = subst (λ n. AllPass is_in_blank_line view.text n from) (sym is.placed)
           (subst (λ t. AllPass is_in_blank_line t old.placed from) (sym text) ready.white);
-      blanks = λ leaf. absurd (true≢false (sym leaf ∙ ends.outside));
+      blanks = λ leaf. absurd (true≢false (sym leaf ∙ is.outside));
     }

@@ -1,8 +1,8 @@
--- What is remembered of a paragraph with one more line, or with its first: whether it was tried if only definitions
--- precede a table's head, and that its last line may be read again.
+-- What is remembered of a paragraph with one more line, or with its first: that its last line may be read again, and
+-- whether it was tried if only definitions precede a table's head, on which nothing else depends.
 use Rattle.std.proofs.Common.{◌≡◌, ℕ, zero, suc, ◌<◌, ◌-◌, Bool, true, false, not, ◌||◌, List, [], ◌∷◌, ◌++◌, Option}
-use Rattle.std.proofs.Common.{Some, None}
-use Rattle.std.proofs.Common.{arith, length, length-append, slice_get, refl, sym, ap, ◌∙◌, subst, append-nil}
+use Rattle.std.proofs.Common.{Some, None, arith, length, length-append, slice_get, refl, sym, ap, ◌∙◌, subst}
+use Rattle.std.proofs.Common.{append-nil}
 use Rattle.std.specs.Prelude.{if◌then◌else◌}
 use Rattle.std.specs.Option.{option_map_or}
 use Rattle.markdown_base.specs.Forest.{Forest}
@@ -16,44 +16,37 @@ use Rattle.markdown_block_rules.specs.BlockGrowth as was
 use Rattle.markdown_block_rules.specs.BlockGrowth.{Block, Kind, table_with}
 use Rattle.markdown_block_rules.specs.TableLines.{further_line, reads_tables}
 use Rattle.markdown_plain.specs.declared.pass.Pass.{Pass}
-use Rattle.markdown_plain.specs.Beginning.{Holds}
+use Rattle.markdown_plain.specs.Beginning.{Holds, HoldsLast, HoldsNone, IsMadeOf}
 use Rattle.markdown_plain.specs.Closing.{MayEnd}
 use Rattle.markdown_plain.specs.Frames.{Frame, Reached, reached}
 use Rattle.markdown_plain.specs.HeldSources.{IsTextLine}
-use Rattle.markdown_plain.specs.OpenLeaves.{ComesAfter, leaf_block}
+use Rattle.markdown_plain.specs.OpenLeaves.{ComesAfter, leaf_block, IsUnended}
 use Rattle.markdown_plain.specs.Paragraphs.{end_of, lines_end}
 use Rattle.markdown_plain.specs.ReachedFrames.{IsBefore, are_none}
 use Rattle.markdown_plain.specs.Standing.{IsSource}
-use Rattle.markdown_plain.specs.TableHeads.{IfParagraph, IfParagraphLast, IsFurther, IsUntabled, Remembers}
-use Rattle.markdown_plain.specs.TableHeads.{indent_of, last_of, next_line}
-use Rattle.markdown_plain.specs.TableHeads.{whole_head}
+use Rattle.markdown_plain.specs.TableHeads.{IfParagraph, IfParagraphLast, IsFurther, IsUntabled, Remembers, indent_of}
+use Rattle.markdown_plain.specs.TableHeads.{last_of, next_line, whole_head}
 use Rattle.markdown_plain.specs.TextLines.{held_line}
 use Rattle.markdown_plain.proofs.AddedLinesLemmas.{end_after}
+use Rattle.markdown_plain.specs.declared.beginnings.LineRest.{LineRest}
+use Rattle.markdown_plain.specs.declared.containers.Reached as code
+use Rattle.markdown_plain.specs.Closable.{IsReady}
+use Rattle.markdown_plain.proofs.LeafTreesLemmas.{get_last, on_test}
 
 -- ---- the next line
 
 -- it has the bytes of the rest of the line
 further_same : (s : Source) (l : SourceLine)
     → (further_line s l ≡ record (text_line l) { indent = (further_line s l).indent })
-further_same s l = either (reads_tables s)
-  where
-    either : (reads : Bool)
-        → (if reads then record (text_line l) { indent = Some (leading_space 4 l.left).columns } else text_line l)
-        ≡ record (text_line l) {
-          indent = (if reads then record (text_line l) { indent = Some (leading_space 4 l.left).columns }
-              else text_line l).indent;
-        }
-    either true = refl
-    either false = refl
+further_same s l =
+    on_test (λ (m : SourceLine). m ≡ record (text_line l) { indent = m.indent }) (reads_tables s)
+    (record (text_line l) { indent = Some (leading_space 4 l.left).columns }) (text_line l) (λ e. refl) (λ e. refl)
 
 pub next_same : (s : Source) (r : Reached)
     → next_line s r ≡ record (text_line r.rest) { indent = (next_line s r).indent }
-next_same s r = either (are_none r.inner)
-  where
-    either : (all : Bool) → (if all then further_line s r.rest else text_line r.rest)
-        ≡ record (text_line r.rest) { indent = (if all then further_line s r.rest else text_line r.rest).indent }
-    either true = further_same s r.rest
-    either false = refl
+next_same s r =
+    on_test (λ (m : SourceLine). m ≡ record (text_line r.rest) { indent = m.indent }) (are_none r.inner)
+    (further_line s r.rest) (text_line r.rest) (λ e. further_same s r.rest) (λ e. refl)
 
 pub next_of : (s : Source) (r : Reached) → (next_line s r).next ≡ r.rest.next
 next_of s r = ap (λ (l : SourceLine). l.next) (next_same s r)
@@ -74,11 +67,7 @@ next_indent s r reads none = either (are_none r.inner)
   where
     either : (all : Bool) → (if all then further_line s r.rest else text_line r.rest).indent
         ≡ (if all then Some (leading_space 4 r.rest.left).columns else None)
-    either true =
-        ap (λ (test : Bool). (if test then record (text_line r.rest) {
-          indent = Some (leading_space 4 r.rest.left).columns;
-        }
-        else text_line r.rest).indent) reads
+    either true = rw reads refl
     either false = none
 
 -- where no tables are read, a line makes none
@@ -127,14 +116,9 @@ last_alike {A = A} xs ys x y same = inside (sym (there xs x) ∙ (ap (λ (zs : L
     inside e = cc
 
 -- the last of some lines and one more
-got_last : (lines : List HeldLine) (line : HeldLine) → slice_get (lines ++ line ∷ []) (length lines) ≡ Some line
-got_last [] line = refl
-got_last (m ∷ lines) line = got_last lines line
-
 last_added : (lines : List HeldLine) (line : HeldLine) → last_of (lines ++ line ∷ []) ≡ Some line
 last_added lines line =
-    let size = length-append lines (line ∷ []) in
-    ap (slice_get (lines ++ line ∷ [])) (omega (arith, size)) ∙ got_last lines line
+    ap (slice_get (lines ++ line ∷ [])) (omega (arith, length-append lines (line ∷ []))) ∙ get_last lines line
 
 -- where the lines before it end
 front_end : (lines : List HeldLine) (line : HeldLine) (n : ℕ) → 0 < length lines → n ≡ length lines
@@ -158,9 +142,7 @@ first_remembered s pass to line source lines next untried = record {
   ends = ap lines_end lines ∙ next;
   tried = untried;
   further = λ head before last there same some.
-      let size = ap length same in
-      let parts = length-append before (last ∷ []) in
-      absurd (omega (arith, size, parts, some));
+      absurd (omega (arith, ap length same, length-append before (last ∷ []), some));
 }
 
 -- what is remembered of the last block, if that is a paragraph of these lines
@@ -284,3 +266,41 @@ seen_remembered s pass new to (Some b) same is = by_kind b.kind is
               (remembered.further head before last here all more));
         }
     by_kind other is = tt
+
+module _ (pass : Pass) (tried : Bool) where
+  -- the pass where that was so
+  abbrev pub now : Pass
+  now = record pass { tried = tried }
+
+  unended_tried : (s : Source) (frames : List Frame) (inside : Forest Block) (b : Block)
+      (held : Option (List SourceLine)) → IsUnended s pass frames inside b held
+      → IsUnended s now frames inside b held
+  unended_tried s frames inside b None is = is
+  unended_tried s frames inside b (Some sources) is = assumption
+
+  none_tried : (held : Option (List SourceLine)) → HoldsNone pass held → HoldsNone now held
+  none_tried None none = none
+  none_tried (Some sources) none = tt
+
+  last_tried : (s : Source) (frames : List Frame) (inside : Forest Block) (last : Option Block)
+      → HoldsLast s pass frames inside last → HoldsLast s now frames inside last
+  last_tried s frames inside None holds =
+      let stands = holds.0.stands in let ends = stands.ends in (assumption (holds.0, stands, ends), holds.1)
+  last_tried s frames inside (Some b) holds =
+      let last = holds.1 in
+      (holds.0, assumption (unended_tried s frames inside b holds.0 last.unended, last), none_tried holds.0 holds.2)
+
+  ready_tried : (from : ℕ) → IsReady pass from → IsReady now from
+  ready_tried from ready = assumption
+
+  pub holds_all_tried : (s : Source) (frames : List Frame) (inside : Forest Block) (last : Option Block) (from : ℕ)
+      → Holds s pass frames inside last from → Holds s now frames inside last from
+  holds_all_tried s frames inside last from holds =
+      assumption (last_tried s frames inside last holds.unended, ready_tried from holds.ready)
+
+  pub source_tried : (line : Line) (source : SourceLine) → IsSource pass line source → IsSource now line source
+  source_tried line source is = assumption
+
+  pub made_untried : (s : Source) (found : code.Reached) (rest : LineRest) → IsMadeOf s now found rest
+      → IsMadeOf s pass found rest
+  made_untried s found rest made = assumption

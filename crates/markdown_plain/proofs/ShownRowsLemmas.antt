@@ -1,28 +1,29 @@
 -- The rows of a table as they are placed: the pieces of a cell's content, where a row's cells lie, and their trees.
-use Rattle.std.proofs.Common.{◌≡◌, ◌≢◌, ℕ, zero, suc, ◌+◌, ◌-◌, ◌<◌, ◌≤◌, Bool, true, false, List, [], ◌∷◌, ◌++◌}
-use Rattle.std.proofs.Common.{Some, None, length, drop, take, min, slice_range, ◌⊎◌, inl, inr, ⊎_elim, refl, sym, ap}
-use Rattle.std.proofs.Common.{◌∙◌}
-use Rattle.std.proofs.Common.{subst, arith, codes, true≢false}
+use Rattle.std.proofs.Common.{Option, ◌≡◌, ◌≢◌, ℕ, zero, suc, ◌+◌, ◌-◌, ◌<◌, ◌≤◌, Bool, true, false, List, [], ◌∷◌}
+use Rattle.std.proofs.Common.{◌++◌, Some, None, length, drop, take, min, slice_range, ◌⊎◌, inl, inr, ⊎_elim, refl, sym}
+use Rattle.std.proofs.Common.{ap, ◌∙◌, subst, arith, codes, true≢false}
 use Rattle.std.specs.Prelude.{get_or, ◌==◌, ◌&&◌, nat_lt, if◌then◌else◌}
 use Rattle.std.specs.List.{list_all, list_any, prefix_len}
+use Rattle.std.specs.Option.{option_map_or}
 use Rattle.std.specs.Str.{IsCharBoundary, IsUtf8}
 use Rattle.std.proofs.lemmas.Bool.{and_parts, cases_lt}
 use Rattle.std.proofs.lemmas.Bool.Decides.{nat_tests}
-use Rattle.std.proofs.lemmas.List.{drop-drop, get_or-drop, length-drop, take_all}
+use Rattle.std.proofs.lemmas.List.{append_assoc, drop-drop, get_or-drop, length-drop, length-take, take_all}
 use Rattle.std.proofs.Math.ListN.{get_or-append}
 use Rattle.std.proofs.Math.Seq.{get_or-append_seam}
 use Rattle.std.proofs.lemmas.List.Folds.{list_any_at}
 use Rattle.std.proofs.lemmas.List.Sums.{prefix_len_passes, prefix_len-le-length}
 use Rattle.std.proofs.lemmas.Str.{IsCharBoundary-after_ascii, IsCharBoundary-before_ascii}
 use Rattle.markdown_base.specs.Bytes.{backslash, pipe}
-use Rattle.markdown_base.specs.Forest.{Forest, nil, node}
+use Rattle.markdown_base.specs.Forest.{Forest, nil, node, roots}
 use Rattle.markdown_base.specs.declared.item.ItemBody.{ItemBody}
 use Rattle.markdown_base.specs.declared.item.ItemBody.TheVariants as body
 use Rattle.markdown_builder.specs.declared.open_block.OpenBlock.{OpenBlock}
-use Rattle.markdown_builder.specs.BuilderView.{BuilderView, Opens, parts_of, with_items}
+use Rattle.markdown_builder.specs.BuilderView.{BuilderView, Opens, innermost_block, parts_of, with_items}
 use Rattle.markdown_builder.specs.Bodies.{is_leaf}
-use Rattle.markdown_builder.specs.EvenRows.{is_table_row}
-use Rattle.markdown_builder.specs.Shown.{Shown, chain_of, plain_item, settled_below, shown_item, with_block}
+use Rattle.markdown_builder.specs.EvenRows.{InnermostRowIsEven, is_table_row, open_columns}
+use Rattle.markdown_builder.specs.Shown.{Shown, alignments_shown, chain_of, plain_item, settled_below, shown_item}
+use Rattle.markdown_builder.specs.Shown.{with_block}
 use Rattle.markdown_builder.specs.TreeLevels.{followed_by, with_trees}
 use Rattle.markdown_builder.proofs.LaidLemmas.{followed_by-assoc, followed_by-nil}
 use Rattle.markdown_items.specs.declared.extensions.ItemSyntax.{ItemSyntax}
@@ -36,24 +37,25 @@ use Rattle.markdown_lines.specs.declared.table_row.Cell.{Cell}
 use Rattle.markdown_base.specs.Source.{Source}
 use Rattle.markdown_lines.specs.LineBytes.{without_end}
 use Rattle.markdown_lines.specs.SourceLines.{SourceLine}
-use Rattle.markdown_lines.specs.TableRows.{cell_over, cells_from, cells_left, cells_over, is_cut}
-use Rattle.markdown_lines.specs.TableRows.{is_row_white, onto_first, parts_after, piece_length, row_cells, row_cells_at}
+use Rattle.markdown_lines.specs.TableRows.{cell_over, cells_from, cells_left, cells_over, is_cut, is_row_white}
+use Rattle.markdown_lines.specs.TableRows.{onto_first, parts_after, piece_length, row_cells_at}
 use Rattle.markdown_lines.proofs.LineBytesLemmas.{trimmed_is}
 use Rattle.markdown_lines.proofs.PositionsLemmas.{rest_of_part}
 use Rattle.markdown_lines.proofs.TableRowsLemmas.{first_part, no_cell}
 use Rattle.markdown_scan.specs.Beginnings.{begins_with}
 use Rattle.markdown_block_rules.specs.BlockRules.{empty_cells, shown_cells, shown_over, shown_row}
 use Rattle.markdown_block_rules.specs.LineContents.{cell_items, pieces_items}
-use Rattle.markdown_plain.specs.declared.placing.Placing.{Placing}
 use Rattle.markdown_plain.specs.Closable.{IsInText}
-use Rattle.markdown_plain.specs.Fitting.{GoesOn, PutsBlock, opened}
-use Rattle.markdown_plain.specs.Fitting.{stepped}
+use Rattle.markdown_plain.specs.Fitting.{GoesOn, PutsBlock, closed, opened, stepped}
 use Rattle.markdown_plain.specs.HeldSources.{IsTextLine}
-use Rattle.markdown_plain.specs.LeafTrees.{HasItems, HasTrees}
+use Rattle.markdown_plain.specs.LeafTrees.{HasItems, HasMoreTexts, HasTrees}
 use Rattle.markdown_plain.specs.OpenBlocks.{outer_of}
-use Rattle.markdown_plain.specs.TableRows.{IsCellIn, IsOnePiece, MayAddCell, cells_placed}
+use Rattle.markdown_plain.specs.Paragraphs.{IsPlacedTo}
+use Rattle.markdown_plain.specs.TableRows.{IsCellIn, IsOnePiece, MayAddCell, PutsTrees, cells_placed, line_row}
 use Rattle.markdown_plain.proofs.ParagraphLinesLemmas.{range_byte, range_length}
-use Rattle.markdown_plain.proofs.LeafTreesLemmas.{closed_tree, on_test, put_opened, same_block, trees_last}
+use Rattle.markdown_plain.proofs.LeafTreesLemmas.{closed_tree, no_text, on_test, put_opened, same_block, texts_after}
+use Rattle.markdown_plain.proofs.LeafTreesLemmas.{trees_last}
+use Rattle.markdown_plain.proofs.OpenBlocksLemmas.{innermost_of_opened, outer_of_opened}
 use Rattle.markdown_plain.proofs.ClosableLemmas.{end_passes}
 use Rattle.markdown_plain.proofs.FittingLemmas.{some_opened}
 
@@ -73,10 +75,9 @@ EndsPiece bytes n = (n ≡ length bytes) ⊎ HasPair bytes n
 ends_later : (byte : ℕ) (bytes : List ℕ) (n : ℕ) → EndsPiece bytes n → EndsPiece (byte ∷ bytes) (suc n)
 ends_later byte bytes n (inl all) = inl (ap suc all)
 ends_later byte bytes n (inr pair) =
-    let inside = pair.within in
     let on : suc n + 2 ≡ suc (n + 2) = omega arith in
     inr (record {
-      within = omega (arith, inside);
+      within = omega (arith, pair.within);
       first = pair.first;
       pipe_is = ap (λ k. get_or (byte ∷ bytes) k 0) on ∙ pair.pipe_is;
     })
@@ -127,10 +128,9 @@ piece_ends (byte ∷ next ∷ bytes) = by_byte (piece_ends (next ∷ bytes)) (pi
     by_pair is after true pair =
         let piped : (1 ≤ length bytes) × (get_or bytes 0 0 ≡ pipe) =
         begins_piped bytes (and_parts (next == backslash) (begins_with (codes "|") bytes) pair).1 in
-        let some = piped.0 in
         let here : byte ≡ backslash = grind (arith, nat_tests, is) in
         subst (EndsPiece (byte ∷ next ∷ bytes)) (sym (pair_step byte next bytes is pair)) (inr (record {
-          within = omega (arith, some);
+          within = omega (arith, piped.0);
           first = here;
           pipe_is = piped.1;
         }))
@@ -149,12 +149,10 @@ piece_ends (byte ∷ next ∷ bytes) = by_byte (piece_ends (next ∷ bytes)) (pi
 -- where no backslash is, all is one piece
 pub no_backslash : (bytes : List ℕ) → ((k : ℕ) → k < length bytes → get_or bytes k 0 ≢ backslash)
     → piece_length bytes ≡ length bytes
-no_backslash bytes none = by_end (piece_ends bytes)
-  where
-    by_end : EndsPiece bytes (piece_length bytes) → piece_length bytes ≡ length bytes
-    by_end (inl all) = all
-    by_end (inr pair) =
-        let inside = pair.within in absurd (none (piece_length bytes) (omega (arith, inside)) pair.first)
+no_backslash bytes none =
+    ⊎_elim (λ (all : piece_length bytes ≡ length bytes). all)
+    (λ (pair : HasPair bytes (piece_length bytes)).
+    absurd (none (piece_length bytes) (omega (arith, pair.within)) pair.first)) (piece_ends bytes)
 
 -- the end of a piece in a text, and what follows the two backslashes there
 pub record IsPieceIn (text : List ℕ) (from to stop : ℕ) : Type 0 where
@@ -163,6 +161,16 @@ pub record IsPieceIn (text : List ℕ) (from to stop : ℕ) : Type 0 where
   pub further : stop < to → stop + 3 ≤ to
   pub first : stop < to → get_or text stop 0 ≡ backslash
   pub pipe_is : stop < to → get_or text (stop + 2) 0 ≡ pipe
+
+-- the end of a cell's content is the end of a piece
+pub whole_piece : (text : List ℕ) (from to stop : ℕ) → from ≤ to → stop ≡ to → IsPieceIn text from to stop
+whole_piece text from to stop ordered is = record {
+  low = omega (arith, ordered, is);
+  high = omega (arith, is);
+  further = λ less. absurd (omega (arith, less, is));
+  first = λ less. absurd (omega (arith, less, is));
+  pipe_is = λ less. absurd (omega (arith, less, is));
+}
 
 -- the first piece of a part of a text
 pub piece_in : (text : List ℕ) (from to : ℕ) → from ≤ to → to ≤ length text
@@ -176,13 +184,8 @@ piece_in text from to ordered within = by_end (piece_ends bytes)
     size = range_length text from to within
 
     by_end : EndsPiece bytes (piece_length bytes) → IsPieceIn text from to (from + piece_length bytes)
-    by_end (inl all) = record {
-      low = omega arith;
-      high = omega (arith, all, size, ordered);
-      further = λ less. omega (arith, all, size, ordered, less);
-      first = λ less. absurd (omega (arith, all, size, ordered, less));
-      pipe_is = λ less. absurd (omega (arith, all, size, ordered, less));
-    }
+    by_end (inl all) =
+        whole_piece text from to (from + piece_length bytes) ordered (omega (arith, all, size, ordered))
     by_end (inr pair) =
         let inside = pair.within in
         let n = piece_length bytes in
@@ -269,32 +272,33 @@ has_step : (n k : ℕ) → k < n → HasStep n
 has_step zero k less = absurd (omega (arith, less))
 has_step (suc n) k less = record { before = n; is = refl }
 
--- a piece was placed
-pub record PlacesPiece (extensions : ItemSyntax) (view new : BuilderView) (from to stop next : ℕ) : Type 0 where
-  pub text : new.text ≡ view.text
-  pub further : RunIsOver stop (stepped view from) from
-      → new.levels ≡ with_items view.levels (content_items view.text extensions from stop)
-  pub over : HasSpecialRun extensions view → HasSpecialRun extensions new
-  pub stop_is : stop ≡ from + piece_length (slice_range view.text from to)
-  pub after : stop + 3 ≤ to → next ≡ stop + 2
-  pub past : to ≤ stop → to ≤ next
-
--- then the pieces after it make the other items
-pub piece_placed : (extensions : ItemSyntax) (all : List (Forest Shown)) (view new : BuilderView)
+-- after the calls for a piece, the pieces after it make the other items
+pub piece_placed : (extensions : ItemSyntax) (all : List (Forest Shown)) (view moved new : BuilderView)
     (from to stop next : ℕ) → from < to → to ≤ length view.text → AwaitsPieces extensions to all view from
-    → PlacesPiece extensions view new from to stop next → AwaitsPieces extensions to all new next
-piece_placed extensions all view new from to stop next less within awaits places =
-    by_end (nat_lt stop to) refl
+    → moved ≡ stepped view from → GoesOn moved new stop
+    → (RunIsOver stop moved moved.at
+    → new.levels ≡ with_items moved.levels (content_items moved.text extensions moved.at stop))
+    → (HasSpecialRun extensions moved → HasSpecialRun extensions new)
+    → stop ≡ from + piece_length (slice_range view.text from to) → (stop + 3 ≤ to → next ≡ stop + 2)
+    → (to ≤ stop → to ≤ next) → AwaitsPieces extensions to all new next
+piece_placed extensions all view moved new from to stop next less within awaits is_moved goes further over stops after
+    past = by_end (nat_lt stop to) refl
   where
+    text : new.text ≡ view.text
+    text = ap (λ (v : BuilderView). v.text) goes ∙ ap (λ (v : BuilderView). v.text) is_moved
+
+    over_runs : HasSpecialRun extensions view → HasSpecialRun extensions new
+    over_runs = rw is_moved at over
+
     step : HasStep awaits.steps
     step = has_step awaits.steps (to - from) awaits.enough
 
     is_piece : IsPieceIn view.text from to stop
-    is_piece = subst (IsPieceIn view.text from to) (sym places.stop_is)
+    is_piece = subst (IsPieceIn view.text from to) (sym stops)
         (piece_in view.text from to (omega (arith, less)) within)
 
     items : new.levels ≡ with_items view.levels (content_items view.text extensions from stop)
-    items = places.further (λ byte some same more. awaits.over less byte some)
+    items = (rw is_moved at further) (λ byte some same more. awaits.over less byte some)
 
     left : List Shown
     left = if nat_lt stop to then pieces_items step.before view.text extensions (stop + 2) to else []
@@ -306,79 +310,45 @@ piece_placed extensions all view new from to stop next less within awaits places
         ∙ (one_piece step.before view.text extensions from to
         ∙ ap (λ n. content_items view.text extensions from n
         ++ (if nat_lt n to then pieces_items step.before view.text extensions (n + 2) to else []))
-        (sym places.stop_is))))
+        (sym stops))))
         ∙ awaits.rest))
 
     by_end : (test : Bool) → nat_lt stop to ≡ test → AwaitsPieces extensions to all new next
     by_end true is =
         let more : stop < to = grind (arith, nat_tests, is) in
-        let low = is_piece.low in
-        let further = is_piece.further more in
-        let there = places.after further in
+        let ahead = is_piece.further more in
+        let there = after ahead in
         let enough = awaits.enough in
-        let one = step.is in
         let is_left : left ≡ pieces_items step.before view.text extensions (stop + 2) to = rw is refl in
         record {
           steps = step.before;
-          enough = omega (arith, enough, one, low, further, there);
-          rest = ap (λ t. with_items new.levels (pieces_items step.before t extensions next to)) places.text
+          enough = omega (arith, enough, step.is, is_piece.low, ahead, there);
+          rest = ap (λ t. with_items new.levels (pieces_items step.before t extensions next to)) text
               ∙ (ap (λ n. with_items new.levels (pieces_items step.before view.text extensions n to)) there
               ∙ (ap (with_items new.levels) (sym is_left) ∙ whole));
           over = λ some byte run same.
               let here : get_or new.text next 0 ≡ pipe =
-              ap (λ t. get_or t next 0) places.text
+              ap (λ t. get_or t next 0) text
               ∙ (ap (λ n. get_or view.text n 0) there ∙ is_piece.pipe_is more) in
-              true≢false (sym (places.over awaits.special byte run) ∙
+              true≢false (sym (over_runs awaits.special byte run) ∙
               (ap (is_special extensions.dashes) (sym same ∙ here)
               ∙ pipe_is_plain extensions.dashes));
-          special = places.over awaits.special;
+          special = over_runs awaits.special;
         }
     by_end false is =
         let no_more : to ≤ stop = grind (arith, nat_tests, is) in
-        let past = places.past no_more in
+        let gone = past no_more in
         let is_left : left ≡ [] = rw is refl in
         record {
           steps = suc (to - next);
           enough = omega arith;
-          rest = ap (with_items new.levels) (no_pieces (suc (to - next)) new.text extensions next to past ∙ sym is_left)
+          rest = ap (with_items new.levels) (no_pieces (suc (to - next)) new.text extensions next to gone ∙ sym is_left)
               ∙ whole;
-          over = λ some. absurd (omega (arith, some, past));
-          special = places.over awaits.special;
+          over = λ some. absurd (omega (arith, some, gone));
+          special = over_runs awaits.special;
         }
 
--- that is what the calls for a piece do
-pub places_piece : (extensions : ItemSyntax) (view moved new : BuilderView) (from to stop next : ℕ)
-    → moved ≡ stepped view from → GoesOn moved new stop
-    → (RunIsOver stop moved moved.at
-    → new.levels ≡ with_items moved.levels (content_items moved.text extensions moved.at stop))
-    → (HasSpecialRun extensions moved → HasSpecialRun extensions new)
-    → stop ≡ from + piece_length (slice_range view.text from to) → (stop + 3 ≤ to → next ≡ stop + 2)
-    → (to ≤ stop → to ≤ next) → PlacesPiece extensions view new from to stop next
-places_piece extensions view moved new from to stop next is goes further over stops after past =
-    subst (λ (m : BuilderView). GoesOn m new stop → (RunIsOver stop m m.at
-    → new.levels ≡ with_items m.levels (content_items m.text extensions m.at stop))
-    → (HasSpecialRun extensions m → HasSpecialRun extensions new)
-    → PlacesPiece extensions view new from to stop next) (sym is)
-    (λ goes further over. record {
-      text = ap (λ (v : BuilderView). v.text) goes;
-      further = further;
-      over = over;
-      stop_is = stops;
-      after = after;
-      past = past;
-    }) goes further over
-
 -- ---- where pieces fit
-
--- the end of a cell's content is the end of a piece
-pub whole_piece : (text : List ℕ) (from to stop : ℕ) → from ≤ to → stop ≡ to → IsPieceIn text from to stop
-whole_piece text from to stop ordered is = record {
-  low = omega (arith, ordered, is);
-  high = omega (arith, is);
-  further = λ less. absurd (omega (arith, less, is));
-  first = λ less. absurd (omega (arith, less, is));
-  pipe_is = λ less. absurd (omega (arith, less, is));
-}
 
 -- a piece may begin at a byte offset, in a cell's content that ends at another
 pub record MayAddPiece (text : List ℕ) (view : BuilderView) (from to : ℕ) : Type 0 where
@@ -396,26 +366,21 @@ pub record IsPieceCut (text : List ℕ) (to stop next : ℕ) : Type 0 where
 pub piece_cut : (text : List ℕ) (from to stop next : ℕ) → IsCharBoundary text to → IsPieceIn text from to stop
     → (stop + 3 ≤ to → next ≡ stop + 2) → (to ≤ stop → to ≤ next) → IsPieceCut text to stop next
 piece_cut text from to stop next boundary is after past =
-    let high = is.high in
-    let last = boundary.0 in
     ⊎_elim (λ (less : stop < to).
     let further = is.further less in
     let there = after further in
-    let first = is.first less in
-    let pipe_is = is.pipe_is less in
     record {
       low = omega (arith, there);
-      stop_at = IsCharBoundary-before_ascii text stop (omega (arith, less, last)) (omega (arith, first));
-      next_at = λ more. subst (IsCharBoundary text) (sym there)
-          (IsCharBoundary-before_ascii text (stop + 2) (omega (arith, further, last)) (omega (arith, pipe_is)));
+      stop_at = IsCharBoundary-before_ascii text stop (omega (arith, less, boundary.0)) (omega (arith, is.first less));
+      next_at = λ more. subst (IsCharBoundary text) (sym there) (IsCharBoundary-before_ascii text (stop + 2)
+          (omega (arith, further, boundary.0)) (omega (arith, is.pipe_is less)));
     })
     (λ (all : to ≤ stop).
-    let over = past all in
-    let same : to ≡ stop = omega (arith, all, high) in
+    let same : to ≡ stop = omega (arith, all, is.high) in
     record {
-      low = omega (arith, over, same);
+      low = omega (arith, past all, same);
       stop_at = subst (IsCharBoundary text) same boundary;
-      next_at = λ more. absurd (omega (arith, more, over));
+      next_at = λ more. absurd (omega (arith, more, past all));
     })
     (cases_lt stop to)
 
@@ -424,48 +389,78 @@ pub piece_added : (text : List ℕ) (old new : BuilderView) (to stop next : ℕ)
     → IsPieceCut text to stop next → GoesOn old new stop → MayAddPiece text new next to
 piece_added text old new to stop next high cut goes =
     let there : new.at ≡ stop = ap (λ (v : BuilderView). v.at) goes in
-    let further = cut.low in
-    record {
-      low = omega (arith, there, further);
-      high = omega (arith, there, high);
-      boundary = cut.next_at;
-    }
+    record { low = omega (arith, there, cut.low); high = omega (arith, there, high); boundary = cut.next_at }
 
 -- ---- a cell
 
--- what was opened after a step is the innermost block
-cell_block : (old first opened : BuilderView) (at : ℕ) → first ≡ stepped old at → Opens first opened body.TableCell
-    → opened.blocks ≡ old.blocks ++ record { start = at; body = body.TableCell } ∷ []
-cell_block old first opened at begun opens =
-    ap (λ (v : BuilderView). v.blocks) opens
-    ∙ ap (λ (v : BuilderView). v.blocks ++ record { start = v.at; body = body.TableCell } ∷ []) begun
+-- a block that was opened, and of which nothing else was opened since, is closed
+closed_at : (old now new like : BuilderView) (block : OpenBlock) (end : ℕ) (leaf : Bool) (run : Option ℕ)
+    → now ≡ record old {
+      at = end;
+      blocks = old.blocks ++ block ∷ [];
+      leaf = leaf;
+      run = run;
+      levels = like.levels;
+      texts = like.texts;
+      headings = like.headings;
+    } → new ≡ closed now new.levels → IsPlacedTo old new end
+closed_at old now new like block end leaf run is closes = all ∙ ap (put old.blocks) (sym all)
+  where
+    put : List OpenBlock → BuilderView → BuilderView
+    put blocks v = record old {
+      at = end;
+      blocks = blocks;
+      leaf = false;
+      run = None;
+      levels = new.levels;
+      texts = v.texts;
+      headings = v.headings;
+    }
 
--- a cell that was opened, filled and closed is put into the row
-pub cell_shown : (s : Source) (cell : Cell) (old first opened filled moved new : BuilderView)
-    → first ≡ stepped old cell.start → Opens first opened body.TableCell → GoesOn opened filled filled.at
-    → HasItems opened filled (cell_items s.text (item_syntax s.syntax) cell.from cell.to)
-    → moved ≡ stepped filled cell.end → PutsBlock moved new → HasTrees old new (shown_cells s (cell ∷ []))
-cell_shown s cell old first opened filled moved new begun opens goes items ended put some =
-    let content = cell_items s.text (item_syntax s.syntax) cell.from cell.to in
-    put_opened old.levels moved new old.blocks (record { start = cell.start; body = body.TableCell }) content _
-    (ap (λ (v : BuilderView). v.blocks) ended
-    ∙ (ap (λ (v : BuilderView). v.blocks) goes ∙ cell_block old first opened cell.start begun opens))
-    (ap (λ (v : BuilderView). v.levels) ended
-    ∙ (items ∙ ap (λ ls. with_items ls content) (ap (λ (v : BuilderView). v.levels) opens
-    ∙ ap (λ (v : BuilderView). v.levels ++ nil ∷ []) begun)))
-    (ap (λ n. plain_item cell.start n body.TableCell) (ap (λ (v : BuilderView). v.at) ended)) refl put some
+    all : new ≡ put old.blocks like
+    all = closes ∙ (ap (λ (v : BuilderView). closed v new.levels) is
+        ∙ ap (λ blocks. put blocks like) (outer_of_opened old.blocks block))
 
--- so is one with nothing in it
-pub empty_shown : (at : ℕ) (old first opened new : BuilderView) → first ≡ stepped old at
-    → Opens first opened body.TableCell → PutsBlock opened new → HasTrees old new (empty_cells 1 at)
-empty_shown at old first opened new begun opens put some =
-    put_opened old.levels opened new old.blocks (record { start = at; body = body.TableCell }) [] _
-    (cell_block old first opened at begun opens)
-    (ap (λ (v : BuilderView). v.levels) opens
-    ∙ (ap (λ (v : BuilderView). v.levels ++ nil ∷ []) begun ∙ sym (no_items (old.levels ++ nil ∷ []))))
-    (ap (λ n. plain_item at n body.TableCell)
-    (ap (λ (v : BuilderView). v.at) opens ∙ ap (λ (v : BuilderView). v.at) begun))
-    refl put some
+-- a cell that was opened after a step, filled and closed after another is put into the row
+pub cell_puts : (old first begun filled now new : BuilderView) (start end : ℕ) (items : List Shown)
+    → first ≡ stepped old start → Opens first begun body.TableCell → GoesOn begun filled filled.at
+    → HasMoreTexts begun filled → HasItems begun filled items → now ≡ stepped filled end
+    → new ≡ closed now new.levels → PutsBlock now new
+    → PutsTrees old new end (node (plain_item start end body.TableCell) (chain_of items) nil)
+cell_puts old first begun filled now new start end items steps opens goes texts added moved closes put =
+    let block : OpenBlock = record { start = start; body = body.TableCell } in
+    let is : now ≡ record (opened old start body.TableCell) {
+      at = end;
+      run = filled.run;
+      levels = filled.levels;
+      texts = filled.texts;
+    } =
+    moved
+    ∙ (ap (λ (v : BuilderView). record v { at = end }) goes
+    ∙ (ap (λ (v : BuilderView). record v {
+      at = end;
+      run = filled.run;
+      levels = filled.levels;
+      texts = filled.texts;
+    }) opens
+    ∙ ap (λ (v : BuilderView). record v {
+      at = end;
+      blocks = v.blocks ++ record { start = v.at; body = body.TableCell } ∷ [];
+      leaf = true;
+      run = filled.run;
+      levels = filled.levels;
+      texts = filled.texts;
+    }) steps)) in
+    record {
+      placed = closed_at old now new (record filled { headings = old.headings }) block end true filled.run is closes;
+      texts = texts_after old begun new (no_text old begun (ap (λ (v : BuilderView). v.texts) opens
+          ∙ ap (λ (v : BuilderView). v.texts) steps)) (texts_after begun filled new texts (no_text filled new
+          (ap (λ (v : BuilderView). v.texts) closes ∙ ap (λ (v : BuilderView). v.texts) moved)));
+      trees = put_opened old.levels now new old.blocks block items _ (ap (λ (v : BuilderView). v.blocks) is)
+          (ap (λ (v : BuilderView). v.levels) moved ∙ (added ∙ ap (λ ls. with_items ls items)
+          (ap (λ (v : BuilderView). v.levels) opens ∙ ap (λ (v : BuilderView). v.levels ++ nil ∷ []) steps)))
+          (ap (λ (v : BuilderView). plain_item start v.at body.TableCell) is) refl put;
+    }
 
 -- ---- where the cells of a line lie
 
@@ -490,7 +485,6 @@ cell_in text part start utf8 bytes first last =
     let trimmed = trimmed_is is_row_white inner in
     let size = length-drop white part in
     let few = prefix_len-le-length is_row_white part in
-    let high = last.0 in
     record {
       after = omega arith;
       content = omega arith;
@@ -499,7 +493,7 @@ cell_in text part start utf8 bytes first last =
       from = ⊎_elim (λ (some : 0 < white).
           let place : start + (white - 1) + 1 ≡ start + white = omega (arith, some) in
           subst (IsCharBoundary text) place (IsCharBoundary-after_ascii text (start + (white - 1)) utf8
-          (omega (arith, some, few, high))
+          (omega (arith, some, few, last.0))
           (subst (λ b. b < 128) (bytes (white - 1) (omega (arith, some, few)))
           (small_white (get_or part (white - 1) 0)
           (prefix_len_passes is_row_white part (white - 1) 0 (omega (arith, some)))))))
@@ -508,7 +502,7 @@ cell_in text part start utf8 bytes first last =
           (cases_lt 0 white);
       to = ⊎_elim (λ (less : count < length inner).
           let place : start + (white + count) ≡ start + white + count = omega arith in
-          IsCharBoundary-before_ascii text (start + white + count) (omega (arith, less, size, few, high))
+          IsCharBoundary-before_ascii text (start + white + count) (omega (arith, less, size, few, last.0))
           (subst (λ b. b < 128) (get_or-drop white part count 0
           ∙ (bytes (white + count) (omega (arith, less, size, few)) ∙ ap (λ k. get_or text k 0) place))
           (small_white (get_or inner count 0)
@@ -614,7 +608,6 @@ cells_within (suc n) text stop utf8 last start bytes few is ordered first low un
         let there = first_part pipe rest in
         let long : length bytes ≡ length part + 1 + length rest =
         ap length cut.is ∙ cut_size part rest pipe in
-        let last_in = last.0 in
         let piped : get_or text (start + length part) 0 ≡ pipe =
         sym (byte_at (length part) (omega (arith, long))) ∙ (ap (λ b. get_or b (length part) 0) cut.is
         ∙ get_or-append_seam part pipe rest 0) in
@@ -627,7 +620,7 @@ cells_within (suc n) text stop utf8 last start bytes few is ordered first low un
         let cells : cells_from start bytes ≡ cell_over start part ∷ cells_from (start + length part + 1) rest =
         ap (cells_over start) (cut.parts ∙ ap (λ ps. part ∷ ps) there.is)
         ∙ ap (λ ps. cell_over start part ∷ cells_over (start + length part + 1) ps) (sym there.is) in
-        let inside : start + length part < length text = omega (arith, long, size, ordered, last_in) in
+        let inside : start + length part < length text = omega (arith, long, size, ordered, last.0) in
         subst (AreCellsFrom text low stop) (sym cells) (
           under,
           omega (arith, long, size, ordered),
@@ -653,11 +646,10 @@ row_cells_in text line utf8 inside =
     (λ led.
     let piped = begins_piped bytes led in
     let some = piped.0 in
-    let byte = piped.1 in
     let zero_on : line.start + 0 ≡ line.start = omega arith in
     let here : get_or text line.start 0 ≡ pipe =
     ap (λ k. get_or text k 0) (sym zero_on)
-    ∙ (sym (range_byte text line.start line.stop 0 (omega (arith, some, size))) ∙ byte) in
+    ∙ (sym (range_byte text line.start line.stop 0 (omega (arith, some, size))) ∙ piped.1) in
     cells_within (suc (length (drop 1 bytes))) text line.stop utf8 inside.stop (line.start + 1) (drop 1 bytes)
     (omega arith) (rest_of_part text line.start line.stop 1) (omega (arith, some, size, content))
     (IsCharBoundary-after_ascii text line.start utf8 (omega (arith, some, size, content, last)) (omega (arith, here)))
@@ -798,176 +790,279 @@ row_closed old now new row start cells is blocks levels put some =
     row_settled body.TableRow is = refl
     row_settled other is = absurd (true≢false (sym is))
 
--- the row of a line's bytes, where its content begins at one byte offset and the line ends at another
-abbrev pub row_over : Source → (columns : ℕ) → ItemBody → (start : ℕ) → List ℕ → (next : ℕ) → Forest Shown
-row_over s columns row start bytes next =
-    shown_over start next row None (followed_by (shown_cells s (take columns (row_cells start bytes)))
-    (empty_cells (columns - length (row_cells start bytes)) next))
-
 -- it is that of the line
 pub row_shown : (s : Source) (columns : ℕ) (row : ItemBody) (line : HeldLine) (source : SourceLine)
-    → IsTextLine s.text line source
-    → row_over s columns row line.start (slice_range s.text line.start line.stop) line.next
-    ≡ shown_row s columns row source
-row_shown s columns row line source is =
-    ap (λ n. row_over s columns row n (slice_range s.text line.start line.stop) line.next) is.start
-    ∙ (ap (λ bytes. row_over s columns row source.left.scanned bytes line.next) is.bytes
-    ∙ ap (row_over s columns row source.left.scanned source.left.bytes) is.next)
+    → IsTextLine s.text line source → line_row s columns row line ≡ shown_row s columns row source
+row_shown s columns row line source is = rw (is.bytes, is.start, is.next) refl
 
--- ---- where a row fits
+-- ---- a row that is open
 
--- the cells that are left of a line lie after what was placed of it
-pub record IsInRow (text : List ℕ) (line : HeldLine) (now : Placing) (cells : List Cell) : Type 0 where
-  pub low : ℕ
-  pub here : now.builder.at ≤ low
-  pub after : line.start ≤ low
-  pub before : low ≤ line.next
-  pub are : AreCellsFrom text low line.stop cells
+-- two lists that end with an element are one
+ends_same : {A : Type 0} (xs ys : List A) (x y : A) → xs ++ x ∷ [] ≡ ys ++ y ∷ [] → (xs ≡ ys) × (x ≡ y)
+ends_same [] [] x y e = (refl, cc (e))
+ends_same [] (z ∷ []) x y e = cc (e)
+ends_same [] (z ∷ w ∷ ys) x y e = cc (e)
+ends_same (z ∷ []) [] x y e = cc (e)
+ends_same (z ∷ w ∷ xs) [] x y e = cc (e)
+ends_same {A} (z ∷ xs) (w ∷ ys) x y e =
+    let tail : xs ++ x ∷ [] ≡ ys ++ y ∷ [] = cc (e) in
+    let head : z ≡ w = cc (e) in
+    let r = ends_same xs ys x y tail in
+    (rw (head, r.0) refl, r.1)
 
--- a row is open that begins at a byte offset
-pub record IsOpenRow (old now : BuilderView) (row : ItemBody) (start : ℕ) : Type 0 where
-  pub blocks : now.blocks ≡ old.blocks ++ record { start = start; body = row } ∷ []
-  pub outside : now.leaf ≡ false
-  pub some : now.blocks ≡ [] → ⊥
-  pub same : now.text ≡ old.text
+-- a row was opened, and has as many cells as the table around it has columns
+pub row_is_even : (old view : BuilderView) (row : OpenBlock) (cells : Forest Shown)
+    → view.blocks ≡ old.blocks ++ row ∷ [] → view.alignments ≡ old.alignments → view.levels ≡ old.levels ++ cells ∷ []
+    → length (roots cells) ≡ open_columns old → InnermostRowIsEven view
+row_is_even old view row inner whole listed are columns outer table last levels cells e l t r =
+    let around = ends_same (outer ++ table ∷ []) old.blocks last row
+    (append_assoc outer (table ∷ []) (last ∷ []) ∙ (sym e ∙ whole)) in
+    let innermost : innermost_block old.blocks ≡ Some table =
+    ap innermost_block (sym around.0) ∙ innermost_of_opened outer table in
+    ap (λ f. length (roots f)) (ends_same levels old.levels cells inner (sym l ∙ are)).1
+    ∙ (columns
+    ∙ (ap (λ (o : Option OpenBlock).
+    option_map_or (λ block. length (alignments_shown old.alignments block.body)) o 0) innermost
+    ∙ ap (λ listing. length (alignments_shown listing table.body)) (sym listed)))
 
--- a row that was opened, and filled with what there is now, is open
-pub row_opened : (old now : BuilderView) (row : ItemBody) (start : ℕ) → is_leaf row ≡ false
-    → now ≡ record (opened old start row) {
-      at = now.at;
-      levels = now.levels;
-      headings = now.headings;
-      texts = now.texts;
-    } → IsOpenRow old now row start
-row_opened old now row start other is =
-    let blocks = ap (λ (v : BuilderView). v.blocks) is in
-    record {
-      blocks = blocks;
-      outside = ap (λ (v : BuilderView). v.leaf) is ∙ other;
-      some = some_opened now.blocks old.blocks (record { start = start; body = row }) blocks;
-      same = ap (λ (v : BuilderView). v.text) is;
-    }
+-- how many trees cells are
+trees_of : (f g : Forest Shown) → length (roots (followed_by f g)) ≡ length (roots f) + length (roots g)
+trees_of nil g = omega arith
+trees_of (node a below after) g = omega (arith, trees_of after g)
 
--- it is still open after a step
-pub row_stepped : (old now moved : BuilderView) (row : ItemBody) (start to : ℕ) → moved ≡ stepped now to
-    → IsOpenRow old now row start → IsOpenRow old moved row start
-row_stepped old now moved row start to is in_row =
-    let blocks = ap (λ (v : BuilderView). v.blocks) is ∙ in_row.blocks in
-    record {
-      blocks = blocks;
-      outside = ap (λ (v : BuilderView). v.leaf) is ∙ in_row.outside;
-      some = some_opened moved.blocks old.blocks (record { start = start; body = row }) blocks;
-      same = ap (λ (v : BuilderView). v.text) is ∙ in_row.same;
-    }
+cells_of_row : (s : Source) (cells : List Cell) → length (roots (shown_cells s cells)) ≡ length cells
+cells_of_row s [] = refl
+cells_of_row s (cell ∷ cells) = ap suc (cells_of_row s cells)
 
--- where a row is open, a cell fits
-pub may_add_cell : (old now : BuilderView) (row : ItemBody) (start at : ℕ) → IsOpenRow old now row start → now.at ≤ at
-    → IsCharBoundary old.text at → MayAddCell now at
-may_add_cell old now row start at in_row low boundary = record {
-  outside = in_row.outside;
-  some = in_row.some;
-  low = low;
-  boundary = subst (λ t. IsCharBoundary t at) (sym in_row.same) boundary;
-}
+cells_lacking : (count at : ℕ) → length (roots (empty_cells count at)) ≡ count
+cells_lacking zero at = refl
+cells_lacking (suc count) at = ap suc (cells_lacking count at)
 
 -- no cell is left at the end of the line
-pub nothing_left : (text : List ℕ) (stop : ℕ) → cells_left text stop stop ≡ []
+nothing_left : (text : List ℕ) (stop : ℕ) → cells_left text stop stop ≡ []
 nothing_left text stop =
     let none : stop - stop ≡ 0 = omega arith in
     ap (λ n. cells_from stop (take n (drop stop text))) none ∙ no_cell stop [] refl
 
--- a row has this number of cells so far, of which some are those of a line
-abbrev pub HasPlaced : Source → List (Forest Shown) → List Cell → (found count at : ℕ) → Placing → Type 0
-HasPlaced s outer cells found count at now =
-    now.builder.levels ≡ outer ++ cells_placed s cells found count at ∷ []
+-- A row is open for a line, with this number of cells so far: some are the first of the line's, and the others are
+-- empty. Those from a byte offset on are left, and lie after what was placed.
+pub record HasRow (s : Source) (old : BuilderView) (b : ItemBody) (line : HeldLine) (now : BuilderView)
+    (found count start : ℕ) : Type 0 where
+  pub like : BuilderView
+  pub row : now ≡ record (opened old line.start b) {
+    at = like.at;
+    levels = like.levels;
+    headings = like.headings;
+    texts = like.texts;
+  }
+  pub texts : HasMoreTexts old now
+  pub shown : now.levels ≡ old.levels ++ cells_placed s (row_cells_at s.text line.start line.stop) found count line.next
+      ∷ []
+  pub few : found ≤ count
+  pub known : found ≤ length (row_cells_at s.text line.start line.stop)
+  pub left : drop found (row_cells_at s.text line.start line.stop) ≡ cells_left s.text start line.stop
+  pub lacking : found < count → cells_left s.text start line.stop ≡ []
+  pub low : ℕ
+  pub here : now.at ≤ low
+  pub after : line.start ≤ low
+  pub before : low ≤ line.next
+  pub are : AreCellsFrom s.text low line.stop (cells_left s.text start line.stop)
 
--- a cell more of the line was placed
-pub cell_added : (s : Source) (outer : List (Forest Shown)) (cells rest : List Cell) (cell : Cell)
-    (found count next at : ℕ) (before after now : Placing) → now ≡ after → found ≡ count → next ≡ count + 1
-    → drop found cells ≡ cell ∷ rest → HasPlaced s outer cells found count at before
-    → HasTrees before.builder after.builder (shown_cells s (cell ∷ []))
-    → HasPlaced s outer cells next (count + 1) at now
-cell_added s outer cells rest cell found count next at before after now is same one left placed puts =
-    ap (λ (p : Placing). p.builder.levels) is
-    ∙ (level_more outer (cells_placed s cells count count at)
-    (shown_cells s (cell ∷ [])) before.builder after.builder
-    (placed ∙ ap (λ n. outer ++ cells_placed s cells n count at ∷ []) same) puts
-    ∙ (ap (λ f. outer ++ f ∷ [])
-    (placed_cell s cells rest cell count at (ap (λ n. drop n cells) (sym same) ∙ left))
-    ∙ ap (λ n. outer ++ cells_placed s cells n (count + 1) at ∷ []) (sym one)))
+-- it has no cell at first
+pub row_begins : (s : Source) (old first now : BuilderView) (b : ItemBody) (line : HeldLine) (start : ℕ)
+    → IsUtf8 s.text → IsInText s.text line → first ≡ stepped old line.start → Opens first now b
+    → cells_left s.text start line.stop ≡ row_cells_at s.text line.start line.stop
+    → HasRow s old b line now 0 0 start
+row_begins s old first now b line start utf8 inside steps opens cells =
+    let is : now ≡ opened old line.start b =
+    opens ∙ ap (λ (v : BuilderView). record v {
+      blocks = v.blocks ++ record { start = v.at; body = b } ∷ [];
+      leaf = is_leaf b;
+      run = None;
+      levels = v.levels ++ nil ∷ [];
+    }) steps in
+    record {
+      like = opened old line.start b;
+      row = is;
+      texts = no_text old now (ap (λ (v : BuilderView). v.texts) is);
+      shown = ap (λ (v : BuilderView). v.levels) is;
+      few = omega arith;
+      known = omega arith;
+      left = sym cells;
+      lacking = λ less. absurd (omega (arith, less));
+      low = line.start;
+      here = omega (arith, ap (λ (v : BuilderView). v.at) is);
+      after = omega arith;
+      before = omega (arith, inside.content, inside.ending);
+      are = rw cells (row_cells_in s.text line utf8 inside);
+    }
 
--- one was placed that the line lacks
-pub empty_added : (s : Source) (outer : List (Forest Shown)) (cells : List Cell) (found count next at : ℕ)
-    (before after now : Placing) → now ≡ after → next ≡ found → found ≤ count
-    → HasPlaced s outer cells found count at before → HasTrees before.builder after.builder (empty_cells 1 at)
-    → HasPlaced s outer cells next (count + 1) at now
-empty_added s outer cells found count next at before after now is same few placed puts =
-    ap (λ (p : Placing). p.builder.levels) is
-    ∙ (level_more outer (cells_placed s cells found count at) (empty_cells 1 at) before.builder after.builder
-    placed puts
-    ∙ (ap (λ f. outer ++ f ∷ []) (placed_empty s cells found count at few)
-    ∙ ap (λ n. outer ++ cells_placed s cells n (count + 1) at ∷ []) (sym same)))
-
--- what lies in a cell that comes next in a row
-pub record ComesNext (text : List ℕ) (line : HeldLine) (low : ℕ) (cell : Cell) (rest : List Cell) : Type 0 where
+-- a cell of the line that comes next
+pub record ComesNext (text : List ℕ) (line : HeldLine) (low : ℕ) (cell : Cell) : Type 0 where
   pub after : low ≤ cell.start
   pub before : cell.end ≤ line.stop
   pub inside : IsCellIn text cell
-  pub are : AreCellsFrom text cell.end line.stop rest
+  pub are : AreCellsFrom text cell.end line.stop (cells_left text (cell.end + 1) line.stop)
 
--- the first of the cells that are left is such a cell
-pub comes_next : (text : List ℕ) (line : HeldLine) (now : Placing) (cells rest : List Cell) (cell : Cell)
-    → cells ≡ cell ∷ rest → (is : IsInRow text line now cells) → ComesNext text line is.low cell rest
-comes_next text line now cells rest cell e is =
-    let are = subst (AreCellsFrom text is.low line.stop) e is.are in
-    record { after = are.0; before = are.1; inside = are.2; are = are.3 }
+module _ {s : Source} {old : BuilderView} {b : ItemBody} {line : HeldLine} {now : BuilderView}
+    {found count start : ℕ} (has : HasRow s old b line now found count start) where
+  -- where it is
+  pub row_some : now.blocks ≡ [] → ⊥
+  row_some none =
+      some_opened now.blocks old.blocks (record { start = line.start; body = b })
+      (ap (λ (v : BuilderView). v.blocks) has.row) none
 
--- it is placed
-pub after_cell : (text : List ℕ) (line : HeldLine) (now : Placing) (cell : Cell) (rest left : List Cell) (low : ℕ)
-    → IsInText text line → line.start ≤ low → ComesNext text line low cell rest → left ≡ rest
-    → (now.builder.at ≡ cell.end) → IsInRow text line now left
-after_cell text line now cell rest left low inside begins next same here =
-    let after = next.after in
-    let before = next.before in
-    let ending = inside.ending in
-    let one = next.inside.after in
-    let two = next.inside.content in
-    let three = next.inside.before in
-    record {
-      low = cell.end;
-      here = let there = here in omega (arith, there);
-      after = omega (arith, begins, after, one, two, three);
-      before = omega (arith, before, ending);
-      are = subst (AreCellsFrom text cell.end line.stop) (sym same) next.are;
-    }
+  pub may_add_cell : (at : ℕ) → is_leaf b ≡ false → old.text ≡ s.text → has.low ≤ at → IsCharBoundary s.text at
+      → MayAddCell now at
+  may_add_cell at other same low boundary = record {
+    outside = ap (λ (v : BuilderView). v.leaf) has.row ∙ other;
+    some = row_some;
+    low = omega (arith, has.here, low);
+    boundary = rw (ap (λ (v : BuilderView). v.text) has.row ∙ same) boundary;
+  }
 
--- an empty one is placed at the end of the line
-pub after_empty : (text : List ℕ) (line : HeldLine) (now : Placing) (left : List Cell) → IsInText text line → left ≡ []
-    → (now.builder.at ≡ line.next) → IsInRow text line now left
-after_empty text line now left inside none here =
-    let content = inside.content in
-    let ending = inside.ending in
-    record {
-      low = line.next;
-      here = let there = here in omega (arith, there);
-      after = omega (arith, content, ending);
-      before = omega arith;
-      are = subst (AreCellsFrom text line.next line.stop) (sym none) tt;
-    }
+  -- the next cell of the line
+  pub comes_next : (cell : Cell)
+      → cells_left s.text start line.stop ≡ cell ∷ cells_left s.text (cell.end + 1) line.stop
+      → ComesNext s.text line has.low cell
+  comes_next cell e =
+      let are : AreCellsFrom s.text has.low line.stop (cell ∷ cells_left s.text (cell.end + 1) line.stop) =
+      rw e at has.are in
+      record { after = are.0; before = are.1; inside = are.2; are = are.3 }
 
--- a row with all its cells is that of the line
-pub row_placed : (s : Source) (old now new : BuilderView) (row : ItemBody) (line : HeldLine) (source : SourceLine)
-    (found count columns : ℕ) → is_table_row row ≡ true
-    → now.blocks ≡ old.blocks ++ record { start = line.start; body = row } ∷ [] → now.at ≡ line.next
-    → now.levels ≡ old.levels
-    ++ cells_placed s (row_cells_at s.text line.start line.stop) found count line.next ∷ []
-    → count ≡ columns → found ≡ min count (length (row_cells_at s.text line.start line.stop))
-    → IsTextLine s.text line source → PutsBlock now new → HasTrees old new (shown_row s columns row source)
-row_placed s old now new row line source found count columns is blocks here levels all most stands put =
-    let cells = row_cells_at s.text line.start line.stop in
-    subst (HasTrees old new)
-    (ap (λ n. shown_over line.start n row None (cells_placed s cells found count line.next)) here
-    ∙ (ap (shown_over line.start line.next row None) (all_placed s cells found count line.next most)
-    ∙ (ap (λ n. row_over s n row line.start (slice_range s.text line.start line.stop) line.next) all
-    ∙ row_shown s columns row line source stands)))
-    (row_closed old now new row line.start (cells_placed s cells found count line.next) is blocks levels put)
+  row_follows : (new : BuilderView) (to : ℕ) (trees : Forest Shown) → is_leaf b ≡ false → PutsTrees now new to trees
+      → new ≡ record (opened old line.start b) {
+        at = to;
+        levels = new.levels;
+        headings = new.headings;
+        texts = new.texts;
+      }
+  row_follows new to trees other puts =
+      puts.placed
+      ∙ (ap (λ (v : BuilderView). record v {
+        at = to;
+        leaf = false;
+        run = None;
+        levels = new.levels;
+        texts = new.texts;
+        headings = new.headings;
+      }) has.row
+      ∙ ap (λ leaf. record (opened old line.start b) {
+        at = to;
+        leaf = leaf;
+        levels = new.levels;
+        texts = new.texts;
+        headings = new.headings;
+      }) (sym other))
+
+  all_found : (cell : Cell) → cells_left s.text start line.stop ≡ cell ∷ cells_left s.text (cell.end + 1) line.stop
+      → found ≡ count
+  all_found cell e =
+      ⊎_elim (λ (less : found < count). cc (e, has.lacking less)) (λ (all : count ≤ found). omega (arith, all, has.few))
+      (cases_lt found count)
+
+  -- one is placed
+  pub cell_added : (cell : Cell) (new : BuilderView) → is_leaf b ≡ false → IsInText s.text line
+      → cells_left s.text start line.stop ≡ cell ∷ cells_left s.text (cell.end + 1) line.stop
+      → PutsTrees now new cell.end (shown_cells s (cell ∷ []))
+      → HasRow s old b line new (count + 1) (count + 1) (cell.end + 1)
+  cell_added cell new other inside e puts =
+      let cells = row_cells_at s.text line.start line.stop in
+      let next = comes_next cell e in
+      let same = all_found cell e in
+      let left : drop count cells ≡ cell ∷ cells_left s.text (cell.end + 1) line.stop =
+      ap (λ n. drop n cells) (sym same) ∙ (has.left ∙ e) in
+      record {
+        like = record new { at = cell.end };
+        row = row_follows new cell.end (shown_cells s (cell ∷ [])) other puts;
+        texts = texts_after old now new has.texts puts.texts;
+        shown = level_more old.levels (cells_placed s cells found count line.next) (shown_cells s (cell ∷ []))
+            now new has.shown puts.trees
+            ∙ ap (λ f. old.levels ++ f ∷ []) (ap (λ n. followed_by (cells_placed s cells n count line.next)
+            (shown_cells s (cell ∷ []))) same
+            ∙ placed_cell s cells (cells_left s.text (cell.end + 1) line.stop) cell count line.next left);
+        few = omega arith;
+        known = omega (arith, length-drop count cells, ap length left);
+        left = drop_next count cells (cells_left s.text (cell.end + 1) line.stop) cell left;
+        lacking = λ less. absurd (omega (arith, less));
+        low = cell.end;
+        here = omega (arith, ap (λ (v : BuilderView). v.at) puts.placed);
+        after = omega (arith, has.after, next.after, next.inside.after, next.inside.content, next.inside.before);
+        before = omega (arith, next.before, inside.ending);
+        are = next.are;
+      }
+
+  -- the line lacks one
+  pub empty_added : (new : BuilderView) → is_leaf b ≡ false → IsInText s.text line
+      → cells_left s.text start line.stop ≡ [] → PutsTrees now new line.next (empty_cells 1 line.next)
+      → HasRow s old b line new found (count + 1) line.stop
+  empty_added new other inside none puts =
+      let cells = row_cells_at s.text line.start line.stop in
+      record {
+        like = record new { at = line.next };
+        row = row_follows new line.next (empty_cells 1 line.next) other puts;
+        texts = texts_after old now new has.texts puts.texts;
+        shown = level_more old.levels (cells_placed s cells found count line.next) (empty_cells 1 line.next) now new
+            has.shown puts.trees
+            ∙ ap (λ f. old.levels ++ f ∷ []) (placed_empty s cells found count line.next has.few);
+        few = omega (arith, has.few);
+        known = has.known;
+        left = has.left ∙ (none ∙ sym (nothing_left s.text line.stop));
+        lacking = λ less. nothing_left s.text line.stop;
+        low = line.next;
+        here = omega (arith, ap (λ (v : BuilderView). v.at) puts.placed);
+        after = omega (arith, inside.content, inside.ending);
+        before = omega arith;
+        are = rw (nothing_left s.text line.stop) tt;
+      }
+
+  -- all cells of the line were found, or as many as there are columns
+  pub found_is : found ≡ min count (length (row_cells_at s.text line.start line.stop))
+  found_is =
+      ⊎_elim (λ (less : found < count).
+      let none : length (row_cells_at s.text line.start line.stop) - found ≡ 0 =
+      sym (length-drop found (row_cells_at s.text line.start line.stop))
+      ∙ ap length (has.left ∙ has.lacking less) in omega (arith, none, less, has.known))
+      (λ (full : count ≤ found). omega (arith, full, has.few, has.known)) (cases_lt found count)
+
+  -- it is closed where the line ends
+  pub row_even : (moved : BuilderView) → moved ≡ stepped now line.next → count ≡ open_columns old
+      → InnermostRowIsEven moved
+  row_even moved steps columns =
+      let cells = row_cells_at s.text line.start line.stop in
+      let taken = length-take found cells in
+      row_is_even old moved (record { start = line.start; body = b })
+      (cells_placed s cells found count line.next)
+      (ap (λ (v : BuilderView). v.blocks) steps ∙ ap (λ (v : BuilderView). v.blocks) has.row)
+      (ap (λ (v : BuilderView). v.alignments) steps ∙ ap (λ (v : BuilderView). v.alignments) has.row)
+      (ap (λ (v : BuilderView). v.levels) steps ∙ has.shown)
+      (omega (
+        arith,
+        trees_of (shown_cells s (take found cells)) (empty_cells (count - found) line.next),
+        cells_of_row s (take found cells),
+        cells_lacking (count - found) line.next,
+        taken,
+        has.few,
+        has.known,
+        columns,
+      ))
+
+  pub row_puts : (moved new : BuilderView) → is_table_row b ≡ true → moved ≡ stepped now line.next
+      → count ≡ open_columns old → new ≡ closed moved new.levels → PutsBlock moved new
+      → PutsTrees old new line.next (line_row s (open_columns old) b line)
+  row_puts moved new is steps columns closes put =
+      let cells = row_cells_at s.text line.start line.stop in
+      record {
+        placed = closed_at old moved new has.like (record { start = line.start; body = b }) line.next (is_leaf b) None
+            (steps ∙ ap (λ (v : BuilderView). record v { at = line.next }) has.row) closes;
+        texts = texts_after old now new has.texts (no_text now new (ap (λ (v : BuilderView). v.texts) closes
+            ∙ ap (λ (v : BuilderView). v.texts) steps));
+        trees = subst (HasTrees old new)
+            (ap (λ (v : BuilderView). shown_over line.start v.at b None
+            (cells_placed s cells found count line.next)) steps
+            ∙ ap (shown_over line.start line.next b None) (all_placed s cells found count line.next found_is
+            ∙ ap (λ n. followed_by (shown_cells s (take n cells)) (empty_cells (n - length cells) line.next)) columns))
+            (row_closed old moved new b line.start (cells_placed s cells found count line.next) is
+            (ap (λ (v : BuilderView). v.blocks) steps ∙ ap (λ (v : BuilderView). v.blocks) has.row)
+            (ap (λ (v : BuilderView). v.levels) steps ∙ has.shown) put);
+      }

@@ -66,7 +66,7 @@ seen_last s pass to frames inside None places = (
       ends = record { at = places.unended.0.at; quotes = places.quotes };
       items = places.items;
     };
-    lists = places.loose.lists;
+    loose = record { lists = places.loose.lists; empty = places.loose.empty };
   },
   places.unended.1,
   places.unended.2,
@@ -79,7 +79,7 @@ seen_last s pass to frames inside (Some b) places =
         syntax = ap (λ (source : Source). source.syntax) (sym places.source);
         quotes = places.quotes;
         items = places.items;
-        lists = places.loose.lists;
+        loose = record { lists = places.loose.lists; empty = places.loose.empty };
       },
       seen_known pass to b held places.unended.2,
     )

@@ -1,13 +1,14 @@
--- The lines of the open paragraph before its last, which is the head of a table: they end as a paragraph.
-use Rattle.std.proofs.Common.{◌≡◌, ℕ, ◌-◌, ◌<◌, ◌≤◌, Bool, true, false, ◌==◌, List, [], ◌∷◌, ◌++◌, Option}
-use Rattle.std.proofs.Common.{Some, length, arith, refl, sym, ap, ◌∙◌, subst}
-use Rattle.std.specs.Prelude.{get_or}
+-- The lines of the open paragraph before its last, which is the head of a table: they end as a paragraph; and the table
+-- that begins with that head.
+use Rattle.std.proofs.Common.{◌≡◌, ℕ, ◌-◌, ◌<◌, ◌≤◌, Bool, true, false, ◌==◌, List, [], ◌∷◌, ◌++◌, Option, Some, length}
+use Rattle.std.proofs.Common.{arith, refl, sym, ap, ◌∙◌, subst, None}
+use Rattle.std.specs.Prelude.{get_or, if◌then◌else◌, slice_get, unwrap_or}
 use Rattle.std.proofs.lemmas.Option.{get_or_from_slice_get}
-use Rattle.std.specs.Option.{option_to_list}
+use Rattle.std.specs.Option.{option_to_list, option_map_or}
 use Rattle.std.specs.Str.{IsCharBoundary}
-use Rattle.markdown_base.specs.Forest.{Forest}
-use Rattle.markdown_builder.specs.BuilderView.{BuilderView}
-use Rattle.markdown_builder.specs.TreeLevels.{followed_by}
+use Rattle.markdown_base.specs.Forest.{Forest, nil, node}
+use Rattle.markdown_builder.specs.BuilderView.{BuilderView, OpensTable}
+use Rattle.markdown_builder.specs.TreeLevels.{followed_by, with_trees}
 use Rattle.markdown_builder.proofs.LaidLemmas.{followed_by-nil}
 use Rattle.markdown_base.specs.Source.{Source}
 use Rattle.markdown_lines.specs.HeldLines.{AreHeldFrom}
@@ -16,19 +17,35 @@ use Rattle.markdown_lines.specs.SourceLines.{SourceLine}
 use Rattle.markdown_lines.specs.declared.held_line.HeldLine.{HeldLine}
 use Rattle.markdown_block_rules.specs.BlockGrowth as was
 use Rattle.markdown_block_rules.specs.BlockGrowth.{Block}
-use Rattle.markdown_block_rules.specs.BlockRules.{in_no_item, lines_end as last_next}
+use Rattle.markdown_block_rules.specs.BlockRules.{in_no_item, lines_end as last_next, shown_row}
 use Rattle.markdown_plain.specs.declared.pass.Pass.{Pass}
 use Rattle.markdown_plain.specs.Closable.{AreAhead, AreApart, AreInText, IsInText}
 use Rattle.markdown_plain.specs.Fits.{MayStep}
-use Rattle.markdown_plain.specs.Fitting.{defining}
 use Rattle.markdown_plain.specs.Frames.{Frame}
 use Rattle.markdown_plain.specs.HeldSources.{AreInOrder, AreInParagraph, AreTextLines, IsParagraph, IsTextLine}
 use Rattle.markdown_plain.specs.OpenedFrames.{around_innermost}
-use Rattle.markdown_plain.specs.OpenLeaves.{HoldsParagraph, leaf_block}
-use Rattle.markdown_plain.specs.Paragraphs.{EndsFrom, IsPlacedTo, first_task, lines_end}
-use Rattle.markdown_plain.specs.Settled.{IsBuilt}
-use Rattle.markdown_plain.specs.TableHeads.{before_table, last_of}
-use Rattle.markdown_plain.proofs.AddedLinesLemmas.{past, past_is_end}
+use Rattle.markdown_plain.specs.OpenLeaves.{HoldsParagraph, leaf_block, IsOpenIn}
+use Rattle.markdown_plain.specs.Paragraphs.{EndsFrom, first_task, lines_end, past, source_of}
+use Rattle.markdown_plain.specs.Settled.{IsBuilt, AreOpen}
+use Rattle.markdown_plain.specs.TableHeads.{before_table, last_of, TurnsToTable, begun_table}
+use Rattle.markdown_plain.proofs.ParagraphsLemmas.{past_is_end}
+use Rattle.markdown_plain.specs.ParagraphSteps.{EndsTo}
+use Rattle.markdown_plain.specs.Fitting.{stepped}
+use Rattle.markdown_base.specs.declared.tag.Alignment.{Alignment}
+use Rattle.markdown_builder.specs.EvenRows.{open_columns}
+use Rattle.markdown_builder.specs.Shown.{Shown, alignments_shown}
+use Rattle.markdown_builder.specs.declared.open_block.OpenBlock.{OpenBlock}
+use Rattle.markdown_items.proofs.RestOfLineLemmas.{no_items}
+use Rattle.markdown_block_rules.specs.TableLines.{alignments_for, fitting, further_line, may_be_head}
+use Rattle.markdown_plain.specs.TableRows.{PutsTrees, line_row}
+use Rattle.markdown_plain.specs.declared.placing.Placing.{Placing}
+use Rattle.markdown_plain.proofs.ShownRowsLemmas.{row_shown}
+use Rattle.markdown_plain.proofs.AppendedBlocksLemmas.{open_after}
+use Rattle.markdown_plain.proofs.LeafTreesLemmas.{get_last, no_text, trees_last}
+use Rattle.markdown_plain.proofs.LeavesInPlaceLemmas.{filled_leaf, has_its_text, leaf_end, more_in_first, shown_alone}
+use Rattle.markdown_plain.proofs.LeavesInPlaceLemmas.{shown_of_kind}
+use Rattle.markdown_plain.proofs.OpenBlocksLemmas.{innermost_of_opened}
+use Rattle.markdown_base.specs.declared.item.ItemBody.TheVariants as body
 
 -- ---- lists of lines
 
@@ -38,9 +55,8 @@ pub with_head : (lines front : List HeldLine) (count : ℕ) (found : Option Held
     → ((d : HeldLine) → 0 < count → found ≡ Some (get_or lines (count - 1) d))
     → last_of lines ≡ Some head → lines ≡ front ++ head ∷ []
 with_head lines front count found head size parts is there =
-    let some = some_line lines there in
     parts ∙ ap (λ (o : Option HeldLine). front ++ option_to_list o)
-    (is head (omega (arith, size, some)) ∙ ap Some (ap (λ n. get_or lines (n - 1) head) size
+    (is head (omega (arith, size, some_line lines there)) ∙ ap Some (ap (λ n. get_or lines (n - 1) head) size
     ∙ get_or_from_slice_get lines (length lines - 1) head head there))
   where
     some_line : (lines : List HeldLine) → last_of lines ≡ Some head → 0 < length lines
@@ -165,12 +181,11 @@ pub front_holds : (s : Source) (old now : Pass) (frames : List Frame) (inside : 
     × (before_table inside b before ≡ followed_by inside (leaf_block (cut_block b before)))
 front_holds s old now frames inside b before from front head has same lines some =
     let text = old.placing.builder.text in
-    let marked = (around_innermost in_no_item frames).marked in
     let placing : now.placing ≡ old.placing = ap (λ (p : Pass). p.placing) same in
     let are = (text_front text front head before from
     (subst (λ ls. AreTextLines text ls (before ++ from ∷ [])) has.all has.holds.lines.are)).0 in
     let inside_it = inside_before text front head (subst (AreInParagraph text) has.all has.holds.lines.inside) in
-    let is = by_lists text marked front before some are has.holds.from in (
+    let is = by_lists text (around_innermost in_no_item frames).marked front before some are has.holds.from in (
       record {
         built = subst (λ p. IsBuilt s p.builder frames inside) (sym placing) has.holds.built;
         some = subst (λ (ls : List HeldLine). 0 < length ls) (sym lines) some;
@@ -206,27 +221,14 @@ pub record IsEndedAt (old new : BuilderView) (at : ℕ) : Type 0 where
   pub outside : new.leaf ≡ false
   pub here : new.at ≡ at
 
-pub ended_at : (old new : BuilderView) (front : List HeldLine) (left : Bool) → 0 < length front → old.leaf ≡ false
-    → (left ≡ true → IsPlacedTo (record old { definitions = new.definitions }) new (lines_end front))
-    → (left ≡ false → new ≡ defining old new.definitions new.at) → (left ≡ false → new.at ≡ lines_end front)
-    → IsEndedAt old new (past old.at front)
-ended_at old new [] left some outside placed defines at = absurd (omega (arith, some))
-ended_at old new (line ∷ front) true some outside placed defines at =
-    let is = placed refl in
-    record {
-      text = ap (λ (v : BuilderView). v.text) is;
-      blocks = ap (λ (v : BuilderView). v.blocks) is;
-      outside = ap (λ (v : BuilderView). v.leaf) is;
-      here = ap (λ (v : BuilderView). v.at) is ∙ past_is_end line front;
-    }
-ended_at old new (line ∷ front) false some outside placed defines at =
-    let is = defines refl in
-    record {
-      text = ap (λ (v : BuilderView). v.text) is;
-      blocks = ap (λ (v : BuilderView). v.blocks) is;
-      outside = ap (λ (v : BuilderView). v.leaf) is ∙ outside;
-      here = at refl ∙ past_is_end line front;
-    }
+pub ended_front : (old new : BuilderView) (front : List HeldLine) → old.leaf ≡ false
+    → EndsTo old new (past old.at front) → IsEndedAt old new (past old.at front)
+ended_front old new front outside ends = record {
+  text = ap (λ (v : BuilderView). v.text) ends;
+  blocks = ap (λ (v : BuilderView). v.blocks) ends;
+  outside = ap (λ (v : BuilderView). v.leaf) ends ∙ outside;
+  here = ap (λ (v : BuilderView). v.at) ends;
+}
 
 pub none_ended : (old new : BuilderView) (front : List HeldLine) → length front ≡ 0 → old.leaf ≡ false → new ≡ old
     → IsEndedAt old new (past old.at front)
@@ -252,3 +254,167 @@ may_step_to_head old new front head ahead ended =
           (subst (λ n. AllPass is_in_blank_line old.text n head.start) (sym here)
           (apart_front old.text old.at front head (ahead.apart (sym ended.blocks ∙ none))).1);
     }
+
+-- ---- what is built
+
+-- the calls that open a table with its head
+pub record BeginsTable (s : Source) (head : HeldLine) (from : SourceLine) (found : List Alignment)
+    (first second third last : BuilderView) : Type 0 where
+  pub steps : second ≡ stepped first head.start
+  pub opens : OpensTable second third found
+  pub puts : PutsTrees third last head.next (line_row s (open_columns third) body.TableHead head)
+  pub is : IsTextLine s.text head from
+
+-- it has as many columns as the delimiter row has cells
+columns_begun : (s : Source) (head : HeldLine) (from : SourceLine) (found : List Alignment)
+    (first second third last : BuilderView) → BeginsTable s head from found first second third last
+    → open_columns third ≡ length found
+columns_begun s head from found first second third last begins =
+    let block : OpenBlock = record { start = second.at; body = body.Table begins.opens.0 } in
+    let all = second.alignments ++ found ∷ [] in
+    ap (λ (v : BuilderView). open_columns v) begins.opens.2
+    ∙ (ap (λ (b : Option OpenBlock). option_map_or (λ b. length (alignments_shown all b.body)) b 0)
+    (innermost_of_opened second.blocks block)
+    ∙ (ap (λ n. length (unwrap_or (slice_get all n) [])) begins.opens.1
+    ∙ ap (λ (a : Option (List Alignment)). length (unwrap_or a [])) (get_last second.alignments found)))
+
+pub table_begun : (s : Source) (frames : List Frame) (inside : Forest Block) (head : HeldLine) (from : SourceLine)
+    (found : List Alignment) (first second third last : BuilderView) → IsBuilt s first frames inside
+    → BeginsTable s head from found first second third last
+    → IsOpenIn s last frames inside false (begun_table from from.next found)
+table_begun s frames inside head from found first second third last built begins =
+    let ix = begins.opens.0 in
+    let opens = begins.opens.2 in
+    let steps = begins.steps in
+    let placed = begins.puts.placed in
+    let b = begun_table from from.next found in
+    let block : OpenBlock = record { start = second.at; body = body.Table ix } in
+    let row = shown_row s (length found) body.TableHead from in
+    let columns = columns_begun s head from found first second third last begins in
+    let texts : third.texts ≡ first.texts =
+    ap (λ (v : BuilderView). v.texts) opens ∙ ap (λ (v : BuilderView). v.texts) steps in
+    let blocks : third.blocks ≡ first.blocks ++ block ∷ [] =
+    ap (λ (v : BuilderView). v.blocks) opens ∙ ap (λ (v : BuilderView). v.blocks ++ block ∷ []) steps in
+    let levels : third.levels ≡ first.levels ++ nil ∷ [] =
+    ap (λ (v : BuilderView). v.levels) opens ∙ ap (λ (v : BuilderView). v.levels ++ nil ∷ []) steps in
+    let alignments : last.alignments ≡ second.alignments ++ found ∷ [] =
+    ap (λ (v : BuilderView). v.alignments) placed ∙ ap (λ (v : BuilderView). v.alignments) opens in
+    let end : last.at ≡ from.next = ap (λ (v : BuilderView). v.at) placed ∙ begins.is.next in
+    let start : second.at ≡ from.left.scanned = ap (λ (v : BuilderView). v.at) steps ∙ begins.is.start in
+    record {
+      outer = first.blocks;
+      block = block;
+      levels = first.levels;
+      below = row;
+      around = record {
+        text = ap (λ (v : BuilderView). v.text) placed ∙ (ap (λ (v : BuilderView). v.text) opens
+            ∙ (ap (λ (v : BuilderView). v.text) steps ∙ built.text));
+        blocks = subst (λ texts. AreOpen texts first.blocks frames)
+            (sym (begins.puts.texts.are ∙ ap (λ ts. ts ++ begins.puts.texts.more) texts))
+            (open_after first.texts begins.puts.texts.more first.blocks frames built.blocks);
+        nested = built.nested;
+        outside = refl;
+        levels = built.levels;
+        definitions = ap (λ (v : BuilderView). v.definitions) placed ∙ (ap (λ (v : BuilderView). v.definitions) opens
+            ∙ (ap (λ (v : BuilderView). v.definitions) steps ∙ built.definitions));
+        footnotes = ap (λ (v : BuilderView). v.footnotes) placed ∙ (ap (λ (v : BuilderView). v.footnotes) opens
+            ∙ (ap (λ (v : BuilderView). v.footnotes) steps ∙ built.footnotes));
+      };
+      blocks = ap (λ (v : BuilderView). v.blocks) placed ∙ blocks;
+      leaf = ap (λ (v : BuilderView). v.leaf) placed;
+      trees = begins.puts.trees (some_level first.levels third.levels levels)
+          ∙ (ap (λ ls. with_trees ls (line_row s (open_columns third) body.TableHead head)) levels
+          ∙ (ap (with_trees (first.levels ++ nil ∷ []))
+          (row_shown s (open_columns third) body.TableHead head from begins.is
+          ∙ ap (λ n. shown_row s n body.TableHead from) columns)
+          ∙ trees_last first.levels nil row));
+      shown = ap (λ n. table_with n last.at (unwrap_or (slice_get last.alignments ix.0) []) row) start
+          ∙ (ap (λ n. table_with from.left.scanned n (unwrap_or (slice_get last.alignments ix.0) []) row) end
+          ∙ (ap (λ found. table_with from.left.scanned from.next found row)
+          (ap (λ n. unwrap_or (slice_get last.alignments n) []) begins.opens.1
+          ∙ (ap (λ all. unwrap_or (slice_get all (length second.alignments)) []) alignments
+          ∙ ap (λ a. unwrap_or a []) (get_last second.alignments found)))
+          ∙ sym (shown_alone s (around_innermost in_no_item frames) b (was.table_leaf false from found []) refl)));
+      end = end ∙ sym (leaf_end frames inside b refl);
+    }
+  where
+    table_with : ℕ → ℕ → List Alignment → Forest Shown → Forest Shown
+    table_with start end found row = node (record {
+      item = record { start = start; end = end; body = body.Table (record { 0 = 0 }) };
+      text = None;
+      heading = None;
+      alignments = found;
+    }) row nil
+
+    some_level : {A : Type 0} (xs ys : List (Forest A)) → ys ≡ xs ++ nil ∷ [] → ys ≡ [] → ⊥
+    some_level [] ys is none = cc (is, none)
+    some_level (x ∷ xs) ys is none = cc (is, none)
+
+-- the builder moves on, and the table ends later
+pub table_stepped : (s : Source) (old new : BuilderView) (frames : List Frame) (inside : Forest Block)
+    (from : SourceLine) (last to : ℕ) (found : List Alignment) → new ≡ stepped old to
+    → IsOpenIn s old frames inside false (begun_table from last found)
+    → IsOpenIn s new frames inside false (begun_table from to found)
+table_stepped s old new frames inside from last to found steps is =
+    let b = begun_table from last found in
+    let c = begun_table from to found in
+    let kind = was.table_leaf false from found [] in
+    let around = around_innermost in_no_item frames in
+    filled_leaf s old new frames inside false b c refl (record {
+      items = [];
+      goes_on = steps ∙ sym (ap (λ (v : BuilderView). record old {
+        at = v.at;
+        run = v.run;
+        levels = v.levels;
+        texts = v.texts;
+      }) steps);
+      texts = no_text old new (ap (λ (v : BuilderView). v.texts) steps);
+      added = ap (λ (v : BuilderView). v.levels) steps ∙ sym (no_items old.levels);
+      named = ap has_its_text (shown_alone s around b kind refl);
+      shown = ap (more_in_first new.at []) (shown_alone s around b kind refl)
+          ∙ (ap (λ n. more_in_first n [] (shown_of_kind s around b kind)) (ap (λ (v : BuilderView). v.at) steps)
+          ∙ sym (shown_alone s around c kind refl));
+      end = ap (λ (v : BuilderView). v.at) steps;
+    }) is
+
+-- ---- the pass before it
+
+-- only that it was tried is recorded before the table is opened
+holds_tried : (s : Source) (old new : Pass) (frames : List Frame) (inside : Forest Block) (b : Block)
+    (sources : List SourceLine) → new ≡ record old { tried = new.tried } → HoldsParagraph s old frames inside b sources
+    → HoldsParagraph s new frames inside b sources
+holds_tried s old new frames inside b sources same holds =
+    subst (λ (p : Pass). HoldsParagraph s p frames inside b sources) (sym same) (record {
+      built = holds.built;
+      some = holds.some;
+      kind = holds.kind;
+      lines = holds.lines;
+      task = holds.task;
+      from = holds.from;
+      last = holds.last;
+    })
+
+-- the table is opened after that, and the builder moves on behind it
+pub turned_on : (old now opened : Pass) (placing : Placing) (last to : ℕ) (found : List Alignment)
+    → now ≡ record old { tried = now.tried } → TurnsToTable now opened last found
+    → placing.builder ≡ stepped opened.placing.builder to
+    → TurnsToTable old (record opened { placing = placing }) to found
+turned_on old now opened placing last to found same table steps = record {
+  same = ap (λ (p : Pass). record p { placing = placing }) table.same
+      ∙ ap (λ (p : Pass). record p { placing = placing; lines = opened.lines; tried = opened.tried }) same;
+  text = ap (λ (v : BuilderView). v.text) steps ∙ (table.text ∙ ap (λ (p : Pass). p.placing.builder.text) same);
+  ended = table.ended;
+  here = ap (λ (v : BuilderView). v.at) steps;
+  some = λ none. table.some (sym (ap (λ (v : BuilderView). v.blocks) steps) ∙ none);
+  opened = λ s frames inside b before from source holds.
+      table_stepped s opened.placing.builder placing.builder frames (before_table inside b before) from last to found
+      steps (table.opened s frames inside b before from (ap source_of same ∙ source)
+      (holds_tried s old now frames inside b (before ++ from ∷ []) same holds));
+}
+
+-- the alignments of the delimiter row are those of the table
+pub found_alignments : (s : Source) (before : List SourceLine) (from l : SourceLine) (found : List Alignment)
+    → Some found ≡ fitting s from (further_line s l) → true ≡ may_be_head s before from
+    → alignments_for s l before from ≡ Some found
+found_alignments s before from l found fits may =
+    ap (λ test. if test then fitting s from (further_line s l) else None) (sym may) ∙ sym fits

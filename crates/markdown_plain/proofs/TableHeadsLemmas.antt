@@ -1,9 +1,7 @@
 -- Whether the last line of the open paragraph may be the head of a table, as far as the lines before it matter.
 use Rattle.std.proofs.Common.{◌≡◌, ℕ, zero, suc, ◌+◌, ◌-◌, ◌<◌, ◌≤◌, Bool, true, false, ◌==◌, List, [], ◌∷◌, ◌++◌}
 use Rattle.std.proofs.Common.{Option, Some, None, length, drop, refl, sym, ap, ◌∙◌, arith, subst, nat_eq, not}
-use Rattle.std.proofs.Common.{slice_range}
-use Rattle.std.proofs.Common.{Err, IfOk, Ok, Result}
-use Rattle.std.proofs.Common.{◌&&◌, ◌||◌, codes, get_or, if◌then◌else◌, nat_lt, take}
+use Rattle.std.proofs.Common.{slice_range, ◌&&◌, ◌||◌, codes, get_or, if◌then◌else◌, nat_lt, take}
 use Rattle.std.proofs.lemmas.Bool.{true≢false}
 use Rattle.std.proofs.lemmas.Bool.Decides.{nat_tests}
 use Rattle.std.proofs.lemmas.List.{length-append}
@@ -34,11 +32,10 @@ use Rattle.markdown_plain.specs.declared.pass.Pass.{Pass}
 use Rattle.markdown_plain.specs.Frames.{Frame, reached}
 use Rattle.markdown_plain.specs.ReachedFrames.{IsBefore, IsReached}
 use Rattle.markdown_plain.specs.Paragraphs.{divided_of, end_of}
-use Rattle.markdown_plain.specs.TableHeads.{IsFurther, IsLastLine, last_of}
-use Rattle.markdown_plain.specs.TableHeads.{whole_head}
+use Rattle.markdown_plain.specs.TableHeads.{IsFurther, IsLastLine, last_of, whole_head}
 use Rattle.markdown_plain.proofs.DividedLemmas.{as_many, filled_of}
 use Rattle.markdown_plain.proofs.ParagraphsLemmas.{end_of_last}
-use Rattle.markdown_plain.proofs.DefinitionLinesLemmas.{first_empty, less_differs, positive}
+use Rattle.markdown_plain.proofs.DividedLemmas.{first_empty, less_differs, positive}
 
 -- ---- the lines of a paragraph before its last
 
@@ -298,8 +295,7 @@ pub first_by_index : (text : List ℕ) (lines : List HeldLine) (before : List So
     (begins ends : HeldLine) → IsParagraph text lines (before ++ from ∷ []) → begins ≡ get_or lines 0 begins
     → ends ≡ get_or lines 0 ends → ends.stop ≤ begins.start → length before ≡ 1 → is_first_after before ≡ true
 first_by_index text lines before from begins ends is at_begin at_end none one =
-    let count = count_of text lines before from is.are in
-    let some : 0 < length lines = omega (arith, count) in
+    let some : 0 < length lines = omega (arith, count_of text lines before from is.are) in
     let there = first_read_at lines begins some at_begin in
     let same : ends ≡ begins = inside (sym (first_read_at lines ends some at_end) ∙ there) in
     first_there text lines before from begins is there
@@ -312,8 +308,7 @@ pub left_by_index : (text : List ℕ) (lines : List HeldLine) (before : List Sou
     (begins ends : HeldLine) → IsParagraph text lines (before ++ from ∷ []) → begins ≡ get_or lines 0 begins
     → ends ≡ get_or lines 0 ends → begins.start < ends.stop → length before ≡ 1 → is_first_after before ≡ false
 left_by_index text lines before from begins ends is at_begin at_end less one =
-    let count = count_of text lines before from is.are in
-    let some : 0 < length lines = omega (arith, count) in
+    let some : 0 < length lines = omega (arith, count_of text lines before from is.are) in
     let there = first_read_at lines begins some at_begin in
     let same : ends ≡ begins = inside (sym (first_read_at lines ends some at_end) ∙ there) in
     first_left text lines before from begins is there
@@ -377,7 +372,3 @@ any_tried false indent columns is = sym (ap (λ (found : Option ℕ). is_some fo
 pub as_tried : (before : Bool) (indent : Option ℕ) → indent ≡ None → before ≡ (before || is_some indent)
 as_tried true indent is = refl
 as_tried false indent is = sym (ap (λ (found : Option ℕ). is_some found) is)
-
-pub if_ok : {A E : Type 0} (P Q : A → Type 0) (r : Result A E) → ((x : A) → P x → Q x) → IfOk r P → IfOk r Q
-if_ok P Q (Ok x) on is = on x is
-if_ok P Q (Err e) on is = tt

@@ -1,14 +1,16 @@
 -- What a line reaches is text: it begins between characters, and nothing but a paragraph goes on in it.
-use Rattle.std.proofs.Common.{◌≡◌, ℕ, ◌+◌, ◌-◌, ◌<◌, ◌≤◌, Bool, true, false, not, ◌&&◌, ◌||◌, ◌==◌, List, [], ◌∷◌}
-use Rattle.std.proofs.Common.{◌++◌, Option, Some, None, length, get_or, codes, nat_le, nat_lt, arith, refl, sym, ap}
-use Rattle.std.proofs.Common.{◌∙◌, map, subst, true≢false}
-use Rattle.std.specs.Prelude.{slice_range, if◌then◌else◌}
+use Rattle.std.proofs.Common.{slice_range}
+use Rattle.std.proofs.Common.{◌≡◌, ℕ, ◌+◌, ◌-◌, ◌<◌, ◌≤◌, Bool, true, false, not, ◌&&◌, ◌||◌, ◌==◌, List, [], ◌∷◌, ◌++◌}
+use Rattle.std.proofs.Common.{Option, Some, None, length, get_or, codes, nat_le, nat_lt, arith, refl, sym, ap, ◌∙◌}
+use Rattle.std.proofs.Common.{subst, true≢false}
 use Rattle.std.specs.List.{prefix_len}
 use Rattle.std.specs.Option.{IfSome, option_map}
 use Rattle.std.specs.Str.{IsCharBoundary, IsUtf8}
+use Rattle.std.proofs.lemmas.Bool.{and_parts, or_parts}
 use Rattle.std.proofs.lemmas.Bool.Decides.{nat_tests}
+use Rattle.std.proofs.lemmas.List.{length-append}
 use Rattle.std.proofs.lemmas.Str.{IsCharBoundary-after_ascii}
-use Rattle.markdown_base.specs.Forest.{Forest, nil, node}
+use Rattle.markdown_base.specs.Forest.{Forest, nil}
 use Rattle.markdown_builder.specs.TreeLevels.{followed_by}
 use Rattle.markdown_builder.specs.declared.open_block.OpenBlock.{OpenBlock}
 use Rattle.markdown_scan.specs.ContainerParts.{past_footnote, past_indent, past_quote}
@@ -18,12 +20,12 @@ use Rattle.markdown_scan.specs.LineStart.{is_line_over, next_column, space_from,
 use Rattle.markdown_lines.specs.declared.block_start.Before.TheVariants as paragraph
 use Rattle.markdown_lines.specs.declared.line.Line.{Line}
 use Rattle.markdown_lines.specs.declared.position.Position.{Position}
-use Rattle.markdown_lines.specs.BlockBeginnings as beginning
+use Rattle.markdown_plain.specs.HeldSources.{IsRest}
 use Rattle.markdown_base.specs.Source.{Source}
 use Rattle.markdown_lines.specs.BlockBeginnings.{begins}
 use Rattle.markdown_lines.specs.Lines.{is_space_or_tab}
 use Rattle.markdown_lines.specs.Positions.{left_from}
-use Rattle.markdown_lines.specs.SourceLines.{SourceLine, is_blank_rest, rest_inside}
+use Rattle.markdown_lines.specs.SourceLines.{SourceLine, is_blank_rest, rest_inside, stop_of}
 use Rattle.markdown_lines.proofs.BlockStartsLemmas.{slice_same}
 use Rattle.markdown_lines.proofs.PositionsLemmas.{in_part}
 use Rattle.markdown_block_rules.specs.BlockGrowth as was
@@ -32,23 +34,21 @@ use Rattle.markdown_block_rules.specs.BlockGrowth.{leaf_with, with_lazy}
 use Rattle.markdown_plain.specs.declared.containers.Reached as code
 use Rattle.markdown_plain.specs.declared.pass.Pass.{Pass}
 use Rattle.markdown_plain.specs.Closing.{MayEnd}
-use Rattle.markdown_plain.specs.Frames.{AreContainers, Frame, Reached, inside_container, reached, reached_past}
-use Rattle.markdown_plain.specs.Frames.{rebuilt, touched}
+use Rattle.markdown_plain.specs.Frames.{AreContainers, Frame, Reached, inside_container, reached, rebuilt}
 use Rattle.markdown_plain.specs.OpenLeaves.{is_leaf, leaf_block}
 use Rattle.markdown_plain.specs.Paragraphs.{has_paragraph}
 use Rattle.markdown_plain.specs.ReachedFrames.{are_none}
-use Rattle.markdown_plain.specs.ReachedLines.{Before, IsReachedBy, LeavesOff, blocks_in, is_indented, reached_of}
-use Rattle.markdown_plain.specs.Containers.{whole_line}
+use Rattle.markdown_plain.specs.ReachedLines.{Before, IsReachedBy, LeavesOff, blocks_in, reached_of}
 use Rattle.markdown_plain.specs.Settled.{AreOpen}
 use Rattle.markdown_plain.specs.Standing.{IsSource, Stands, with_last}
-use Rattle.markdown_plain.specs.TextLines.{IsTextFrom, IsTextHere, paragraph_before}
+use Rattle.markdown_plain.specs.TextLines.{IsContentAt, IsTextFrom, IsTextHere, paragraph_before}
 use Rattle.markdown_plain.proofs.AddedLinesLemmas.{has_held}
 use Rattle.markdown_plain.proofs.BegunLemmas.{IsLeftOf, next_is_of}
 use Rattle.markdown_plain.proofs.FramesLemmas.{inner_containers, with_lazy_last}
 use Rattle.markdown_plain.proofs.LastBlocksLemmas.{lazily_inside, nothing_goes_on, open_are_containers}
 use Rattle.markdown_plain.proofs.LeafLinesLemmas.{before_line, leaf_leaves_off}
 use Rattle.markdown_plain.proofs.LeafTreesLemmas.{on_test}
-use Rattle.markdown_plain.proofs.ReachedLemmas.{inner_goes_lazily, reached_parts}
+use Rattle.markdown_plain.proofs.ReachedLemmas.{by_test, inner_goes_lazily, on_reached, reached_parts}
 
 -- ---- where it begins
 
@@ -59,12 +59,9 @@ pub record IsWithin (text : List ℕ) (from : ℕ) (left : LineLeft) : Type 0 wh
   pub low : from ≤ left.scanned
 
 narrow : (column b : ℕ) → (space_width column b == 0) ≡ false → b < 128
-narrow column b some = by_byte (b == 32) (b == 9) refl refl
-  where
-    by_byte : (space tab : Bool) → (b == 32) ≡ space → (b == 9) ≡ tab → b < 128
-    by_byte true tab is also = grind (arith, nat_tests, is)
-    by_byte false true is also = grind (arith, nat_tests, also)
-    by_byte false false is also = absurd (true≢false (rw (is, also) at some))
+narrow column b some = by_test (b == 32) (λ is. grind (arith, nat_tests, is))
+    (λ is. by_test (b == 9) (λ also. grind (arith, nat_tests, also))
+    (λ also. absurd (true≢false (rw (is, also) at some))))
 
 module _ (text : List ℕ) (from : ℕ) (utf8 : IsUtf8 text) where
   -- a byte fewer
@@ -73,13 +70,12 @@ module _ (text : List ℕ) (from : ℕ) (utf8 : IsUtf8 text) where
       → IsWithin text from (record { scanned = scanned + 1; owed = next; column = after; bytes = bytes })
   next_within scanned owed next column after b bytes ascii is =
       let there = in_part text (b ∷ bytes) scanned (scanned + length (b ∷ bytes)) 0 (sym is.own) (omega arith) in
-      let within = there.within in
       let place : scanned + 0 ≡ scanned = omega arith in
       let same : get_or text scanned 0 ≡ b = ap (λ n. get_or text n 0) (sym place) ∙ sym there.byte in
       record {
         own = next_is_of text scanned owed next column after b bytes is.own;
-        boundary = IsCharBoundary-after_ascii text scanned utf8 (omega (arith, within)) (omega (arith, same, ascii));
-        low = let low = is.low in omega (arith, low);
+        boundary = IsCharBoundary-after_ascii text scanned utf8 (omega (arith, there)) (omega (arith, same, ascii));
+        low = omega (arith, is);
       }
 
   space_from_within : (n scanned column : ℕ) (bytes : List ℕ)
@@ -89,26 +85,17 @@ module _ (text : List ℕ) (from : ℕ) (utf8 : IsUtf8 text) where
   space_from_within n scanned column (b ∷ bytes) is =
       let width = space_width column b in
       let next = column_after column b in
-      on_test (λ (s : Space). IsWithin text from s.after) ((n == 0) || (width == 0)) _ _
-      (λ e. is)
-      (λ some. on_test (λ (s : Space). IsWithin text from s.after) (nat_lt n width) _ _
-      (λ more. next_within scanned 0 (width - n) column next b bytes
-      (narrow column b (second (n == 0) (width == 0) some))
-      is)
+      on_test (λ (s : Space). IsWithin text from s.after) ((n == 0) || (width == 0)) _ _ (λ e. is) (λ some.
+      let ascii = narrow column b (or_parts (n == 0) (width == 0) some).1 in
+      on_test (λ (s : Space). IsWithin text from s.after) (nat_lt n width) _ _
+      (λ more. next_within scanned 0 (width - n) column next b bytes ascii is)
       (λ less. space_from_within (n - width) (scanned + 1) next bytes
-      (next_within scanned 0 0 column next b bytes (narrow column b (second (n == 0) (width == 0) some)) is)))
-    where
-      second : (one other : Bool) → (one || other) ≡ false → other ≡ false
-      second true other fails = absurd (true≢false fails)
-      second false other fails = fails
+      (next_within scanned 0 0 column next b bytes ascii is)))
 
   pub space_within : (n : ℕ) (left : LineLeft) → IsWithin text from left
       → IsWithin text from (leading_space n left).after
-  space_within n left is =
-      on_test (λ (s : Space). IsWithin text from s.after) (nat_le n left.owed) _ _
-      (λ e. record { own = is.own; boundary = is.boundary; low = is.low })
-      (λ e. space_from_within (n - left.owed) left.scanned left.column left.bytes
-      (record { own = is.own; boundary = is.boundary; low = is.low }))
+  space_within n left is = on_test (λ (s : Space). IsWithin text from s.after) (nat_le n left.owed) _ _
+      (λ e. assumption) (λ e. space_from_within (n - left.owed) left.scanned left.column left.bytes assumption)
 
   pub marker_within : (scanned owed column : ℕ) (bytes : List ℕ) → begins_with (codes ">") bytes ≡ true
       → IsWithin text from (record { scanned = scanned; owed = owed; column = column; bytes = bytes })
@@ -125,12 +112,8 @@ module _ (text : List ℕ) (from : ℕ) (utf8 : IsUtf8 text) where
       on_test (λ o. IfSome o (IsWithin text from))
       (nat_lt space.columns 4 && begins_with (codes ">") space.after.bytes) _ _
       (λ there. marker_within space.after.scanned space.after.owed space.after.column space.after.bytes
-      (second (nat_lt space.columns 4) (begins_with (codes ">") space.after.bytes) there) (space_within 4 left is))
-      (λ e. tt)
-    where
-      second : (one other : Bool) → (one && other) ≡ true → other ≡ true
-      second true other both = both
-      second false other both = absurd (true≢false (sym both))
+      (and_parts (nat_lt space.columns 4) (begins_with (codes ">") space.after.bytes) there).1
+      (space_within 4 left is)) (λ e. tt)
 
   indentation_within : (indent : ℕ) (left : LineLeft) → IsWithin text from left
       → IfSome (past_indent indent left) (IsWithin text from)
@@ -168,15 +151,9 @@ module _ (text : List ℕ) (from : ℕ) (utf8 : IsUtf8 text) where
   unfolding reached
   reached_within s [] inside l is = is
   reached_within s (f ∷ frames) inside l is =
-      past (inside_container s l (is_nil (rebuilt frames inside)) f.block.kind)
-      (container_within s l (is_nil (rebuilt frames inside)) f.block.kind is)
-      (λ m there. reached_within s frames inside m there)
-    where
-      past : (rest : Option SourceLine) → IfSome rest (λ m. IsWithin text from m.left)
-          → ((m : SourceLine) → IsWithin text from m.left → IsWithin text from (reached s frames inside m).rest.left)
-          → IsWithin text from (reached_past f frames l (reached s frames inside) rest).rest.left
-      past None there inner = is
-      past (Some m) there inner = inner m there
+      let within = container_within s l (is_nil (rebuilt frames inside)) f.block.kind is in
+      on_reached (λ r. IsWithin text from r.rest.left) s f frames inside l (λ e. is)
+      (λ m e. reached_within s frames inside m (rw e at within))
 
   -- and its first byte of content does
   pub content_within : (scanned owed column : ℕ) (bytes : List ℕ)
@@ -184,36 +161,26 @@ module _ (text : List ℕ) (from : ℕ) (utf8 : IsUtf8 text) where
       → IsCharBoundary text (scanned + prefix_len is_space_or_tab bytes)
   content_within scanned owed column [] is = subst (IsCharBoundary text) (omega arith) is.boundary
   content_within scanned owed column (b ∷ bytes) is =
-      on_test (λ n. IsCharBoundary text (scanned + n)) (is_space_or_tab b) _ _
-      (λ white.
-      let ascii : b < 128 = grind (arith, nat_tests, white) in
-      subst (IsCharBoundary text) (omega arith)
-      (content_within (scanned + 1) 0 column bytes (next_within scanned owed 0 column column b bytes ascii is)))
+      on_test (λ n. IsCharBoundary text (scanned + n)) (is_space_or_tab b) _ _ (λ white.
+      let next = next_within scanned owed 0 column column b bytes (grind (arith, nat_tests, white)) is in
+      subst (IsCharBoundary text) (omega arith) (content_within (scanned + 1) 0 column bytes next))
       (λ other. subst (IsCharBoundary text) (omega arith) is.boundary)
 
 -- ---- what goes on in it
-
-leaf_stays_lazily : (l : SourceLine) (start first last : ℕ) (kind : Kind) → is_leaf kind ≡ true
-    → with_lazy l (node (record { start = start; first = first; last = last; kind = kind }) nil nil) ≡ None
-unfolding with_lazy
-leaf_stays_lazily l start first last (was.paragraph_leaf lines) leaf = absurd (true≢false (sym leaf))
-leaf_stays_lazily l start first last other leaf = refl
 
 -- a leaf goes on lazily behind no containers
 behind_none : (s : Source) (l : SourceLine) (frames : List Frame) (inside : Forest Block) (b : Block)
     → is_leaf b.kind ≡ true → AreContainers frames
     → lazily s l (rebuilt frames (followed_by inside (leaf_block b))) ≡ None
+unfolding with_lazy
 behind_none s l frames inside b leaf are =
-    either_none (not (is_blank_rest l) && is_text (begins s paragraph.Lazy l))
-    (lazily_inside l frames (followed_by inside (leaf_block b)) are
-    ∙ ap (option_map (rebuilt (map (touched l) frames)))
-    (with_lazy_last inside b nil l
-    ∙ ap (option_map (followed_by inside)) (leaf_stays_lazily l b.start b.first b.last b.kind leaf)))
+    let none = rw (with_lazy_last inside b nil l, stays b.kind leaf)
+    at (lazily_inside l frames (followed_by inside (leaf_block b)) are) in
+    rw none (by_test (not (is_blank_rest l) && is_text (begins s paragraph.Lazy l)) (λ e. rw e refl) (λ e. rw e refl))
   where
-    either_none : (test : Bool) → with_lazy l (rebuilt frames (followed_by inside (leaf_block b))) ≡ None
-        → (if test then with_lazy l (rebuilt frames (followed_by inside (leaf_block b))) else None) ≡ None
-    either_none true none = none
-    either_none false none = refl
+    stays : (kind : Kind) → is_leaf kind ≡ true → with_lazy l (leaf_block (record b { kind = kind })) ≡ None
+    stays (was.paragraph_leaf lines) leaf = absurd (true≢false (sym leaf))
+    stays other leaf = refl
 
 pub leaf_ends : (s : Source) (frames : List Frame) (inside : Forest Block) (b : Block) (l : SourceLine)
     → is_leaf b.kind ≡ true → AreContainers frames
@@ -229,27 +196,21 @@ leaf_ends s frames inside b l leaf are off = by_inner r.inner refl
     r : Reached
     r = reached s frames now l
 
-    inner_are : AreContainers r.inner
-    inner_are = inner_containers r.outer r.inner (subst AreContainers (sym (reached_parts s frames now l)) are)
-
     by_inner : (inner : List Frame) → r.inner ≡ inner → goes_on s (rebuilt r.inner now) r.rest ≡ None
-    by_inner [] is =
-        ap (λ (fs : List Frame). goes_on s (rebuilt fs now) r.rest) is
-        ∙ leaf_leaves_off s r.rest inside b leaf (off is)
-    by_inner (f ∷ others) is =
-        inner_goes_lazily s frames now l f others are is ∙ behind_none s r.rest r.inner inside b leaf inner_are
+    by_inner [] is = rw is (leaf_leaves_off s r.rest inside b leaf (off is))
+    by_inner (f ∷ others) is = inner_goes_lazily s frames now l f others are is
+        ∙ behind_none s r.rest r.inner inside b leaf
+        (inner_containers r.outer r.inner (rw (reached_parts s frames now l) are))
 
 -- where no paragraph is open, and an open leaf that the line reaches leaves off, nothing goes on
 pub nothing_left : (s : Source) (pass : Pass) (from : ℕ) (frames : List Frame) (inside : Forest Block)
     (last : Option Block) (source : SourceLine) → Stands s pass frames inside last from
     → is_blank_rest (reached s frames (with_last inside last) source).rest ≡ false
     → ((reached s frames (with_last inside last) source).inner ≡ []
-    → LeavesOff s (reached s frames (with_last inside last) source).rest last)
-    → has_paragraph pass ≡ false
+    → LeavesOff s (reached s frames (with_last inside last) source).rest last) → has_paragraph pass ≡ false
     → goes_on s (rebuilt (reached s frames (with_last inside last) source).inner (with_last inside last))
     (reached s frames (with_last inside last) source).rest ≡ None
-nothing_left s pass from frames inside None source stands filled off none =
-    nothing_goes_on s frames inside source
+nothing_left s pass from frames inside None source stands filled off none = nothing_goes_on s frames inside source
     (open_are_containers pass.placing.builder.texts pass.placing.builder.blocks frames
     stands.unended.0.stands.built.blocks) stands.unended.2
 nothing_left s pass from frames inside (Some b) source stands filled off none =
@@ -260,72 +221,60 @@ nothing_left s pass from frames inside (Some b) source stands filled off none =
 
     by_held : (held : Option (List SourceLine)) → MayEnd s pass frames inside b held
         → goes_on s (rebuilt (reached s frames now source).inner now) (reached s frames now source).rest ≡ None
-    by_held None may =
-        leaf_ends s frames inside b source may.unended.0
+    by_held None may = leaf_ends s frames inside b source may.unended.0
         (open_are_containers pass.placing.builder.texts may.unended.1.outer frames may.unended.1.around.blocks)
-        (λ all. off all may.unended.0 (ap (λ blank. blank && is_indented b.kind) filled))
-    by_held (Some sources) may =
-        absurd (true≢false (sym (has_held s pass frames inside b sources may.unended) ∙ none))
+        (λ all. off all may.unended.0 (rw filled refl))
+    by_held (Some sources) may = absurd (true≢false (sym (has_held s pass frames inside b sources may.unended) ∙ none))
 
 -- ---- text
 
 -- before a line, what is left of it is the line
 pub whole_within : (pass : Pass) (line : Line) (source : SourceLine) → IsSource pass line source
     → IsWithin pass.placing.builder.text line.start source.left
-whole_within pass line source is =
-    let text = pass.placing.builder.text in
-    subst (IsWithin text line.start) is.left (record {
-      own = slice_same text line.start line.stop;
-      boundary = is.boundary;
-      low = omega arith;
-    })
+whole_within pass line source is = rw (← is.left) (record {
+  own = slice_same pass.placing.builder.text line.start line.stop;
+  boundary = is.boundary;
+  low = omega arith;
+})
 
--- what the line reaches is text, from its first byte of content on, where a leaf that it reaches leaves off
-text_found : (s : Source) (pass : Pass) (line : Line) (found : code.Reached) (before : Before)
-    (source : SourceLine) (start : ℕ) → IsUtf8 pass.placing.builder.text
-    → IsReachedBy s pass line found before source → start ≡ content_of (reached_of s before source).rest
-    → is_blank_rest (reached_of s before source).rest ≡ false
-    → begins s (paragraph_before pass (are_none (reached_of s before source).inner)) (reached_of s before source).rest
-    ≡ beginning.begins_text
-    → ((reached_of s before source).inner ≡ [] → LeavesOff s (reached_of s before source).rest before.last)
-    → IsTextHere s pass line start found.depth (blocks_in before) (reached_of s before source)
-text_found s pass line found before source start utf8 by here filled text_begins off =
-    let text = pass.placing.builder.text in
-    let rest = (reached_of s before source).rest in
-    let left = by.reaches.rest.left in
-    let within = reached_within text line.start utf8 s before.frames (blocks_in before) source
-    (whole_within pass line source by.is) in
-    record {
-      depth_is = by.reaches.depth;
-      content = record {
-        filled = filled;
-        here = here;
-        boundary = subst (IsCharBoundary text) (sym here)
-            (content_within text line.start utf8 rest.left.scanned rest.left.owed rest.left.column rest.left.bytes
-            (record { own = within.own; boundary = within.boundary; low = within.low }));
-        low = within.low;
-        bytes = ap (λ n. slice_range text n line.stop) (sym (ap (λ (l : LineLeft). l.scanned) left))
-            ∙ ap (λ (l : LineLeft). l.bytes) left;
-        stop = by.reaches.stop;
-        next = by.reaches.rest.next;
-      };
-      text = text_begins;
-      over = nothing_left s pass line.start before.frames before.inside before.last source by.stands filled off;
-    }
+-- the rest of a line that is not blank has content
+pub content_at : {text : List ℕ} {position : Position} {line : Line} {rest : SourceLine} (at : ℕ) → IsUtf8 text
+    → IsWithin text line.start rest.left → IsRest text position line rest → line.stop ≡ stop_of rest
+    → is_blank_rest rest ≡ false → at ≡ content_of rest → IsContentAt text line rest at
+content_at {text} {position} {line} {rest} at utf8 within is stop filled here = record {
+  filled = filled;
+  here = here;
+  boundary = subst (IsCharBoundary text) (sym here)
+      (content_within text line.start utf8 rest.left.scanned rest.left.owed rest.left.column rest.left.bytes
+      (record { own = within.own; boundary = within.boundary; low = within.low }));
+  low = within.low;
+  bytes = ap (λ n. slice_range text n line.stop) (sym (ap (λ (l : LineLeft). l.scanned) is.left))
+      ∙ ap (λ (l : LineLeft). l.bytes) is.left;
+  stop = stop;
+  next = is.next;
+}
 
--- it is where its first byte shows that
+-- what the line reaches is text where its first byte of content shows that, and a leaf that it reaches leaves off
 pub text_reached : (s : Source) (pass : Pass) (line : Line) (found : code.Reached) (before : Before)
     (source : SourceLine) → IsUtf8 pass.placing.builder.text → IsReachedBy s pass line found before source
     → IsTextFrom pass.placing.builder.text found.position line.stop
     → ((reached_of s before source).inner ≡ [] → LeavesOff s (reached_of s before source).rest before.last)
     → IsTextHere s pass line found.position.at found.depth (blocks_in before) (reached_of s before source)
 text_reached s pass line found before source utf8 by shows off =
+    let text = pass.placing.builder.text in
     let rest = (reached_of s before source).rest in
-    let left = by.reaches.rest.left in
-    text_found s pass line found before source found.position.at utf8 by (sym (shows.here rest (sym left)))
-    (shows.filled rest (sym left))
-    (shows.begins_it s (paragraph_before pass (are_none (reached_of s before source).inner)) rest
-    (sym (ap (λ (s : Source). s.text) by.stands.source)) (sym left)) off
+    let at = sym by.reaches.rest.left in
+    record {
+      depth_is = by.reaches.depth;
+      content = content_at found.position.at utf8
+          (reached_within text line.start utf8 s before.frames (blocks_in before) source
+          (whole_within pass line source by.is)) by.reaches.rest by.reaches.stop (shows.filled rest at)
+          (sym (shows.here rest at));
+      text = shows.begins_it s (paragraph_before pass (are_none (reached_of s before source).inner)) rest
+          (sym (ap (λ (s : Source). s.text) by.stands.source)) at;
+      over = nothing_left s pass line.start before.frames before.inside before.last source by.stands
+          (shows.filled rest at) off;
+    }
 
 -- ---- outside all blocks
 
@@ -334,10 +283,6 @@ no_frames : (texts : List (List ℕ)) (blocks leaf : List OpenBlock) (frames : L
 no_frames texts [] leaf [] are none = (refl, sym none)
 no_frames texts [] leaf (f ∷ frames) are none = absurd are
 no_frames texts (block ∷ blocks) leaf frames are none = cc (none)
-
-none_before : (block : OpenBlock) (outer : List OpenBlock) → [] ≡ outer ++ block ∷ [] → ⊥
-none_before block [] none = cc (none)
-none_before block (first ∷ outer) none = cc (none)
 
 -- where no block is open, the line is text where its first byte shows that
 pub text_outside : (s : Source) (pass : Pass) (line : Line) (before : Before) (source : SourceLine)
@@ -351,33 +296,9 @@ text_outside s pass line before source stands is none position here nothing colu
     let frames = no_frames pass.placing.builder.texts opened.containers opened.leaf before.frames opened.are
     (sym none ∙ opened.blocks) in
     let left : source.left ≡ left_from pass.placing.builder.text position line.stop =
-    sym is.left ∙ sym (same_left pass.placing.builder.text) in
-    subst (λ (fs : List Frame). IsTextHere s pass line line.start 0 (blocks_in before)
-    (reached s fs (blocks_in before) source)) (sym frames.0)
-    (outside left)
+    sym is.left ∙ rw (here, nothing, column) refl in
+    rw frames.0 (outside left)
   where
-    same_left : (text : List ℕ) → left_from text position line.stop ≡ whole_line text line
-    same_left text =
-        ap (λ n. record {
-          scanned = n;
-          owed = position.owed;
-          column = position.column;
-          bytes = slice_range text n line.stop;
-        })
-        here
-        ∙ (ap (λ n. record {
-          scanned = line.start;
-          owed = n;
-          column = position.column;
-          bytes = slice_range text line.start line.stop;
-        }) nothing
-        ∙ ap (λ n. record {
-          scanned = line.start;
-          owed = 0;
-          column = n;
-          bytes = slice_range text line.start line.stop;
-        }) column)
-
     outside : source.left ≡ left_from pass.placing.builder.text position line.stop
         → IsTextHere s pass line line.start 0 (blocks_in before) (reached s [] (blocks_in before) source)
     outside left =
@@ -390,8 +311,7 @@ text_outside s pass line before source stands is none position here nothing colu
             here = sym here ∙ sym (shows.here source left);
             boundary = is.boundary;
             low = within.low;
-            bytes = subst (λ stop. slice_range pass.placing.builder.text source.left.scanned stop ≡ source.left.bytes)
-                (sym is.stop) within.own;
+            bytes = rw is.stop within.own;
             stop = is.stop;
             next = is.next;
           };
@@ -407,7 +327,10 @@ text_outside s pass line before source stands is none position here nothing colu
           where
             by_held : (held : Option (List SourceLine)) → MayEnd s pass frames before.inside b held
                 → goes_on s (with_last before.inside (Some b)) source ≡ None
-            by_held None may =
-                absurd (none_before may.unended.1.block may.unended.1.outer (sym none ∙ may.unended.1.blocks))
+            by_held None may = absurd (omega (
+              arith,
+              ap length (sym none ∙ may.unended.1.blocks),
+              length-append may.unended.1.outer (may.unended.1.block ∷ []),
+            ))
             by_held (Some sources) may =
                 absurd (true≢false (sym (has_held s pass frames before.inside b sources may.unended) ∙ free))

@@ -1,8 +1,7 @@
 -- A line that underlines the paragraph that it reaches: this becomes a heading. Where it holds definitions alone, the
 -- line is text of it, or a thematic break, before which it ends, and which is read once more.
-use Rattle.std.proofs.Common.{◌≡◌, ℕ, ◌<◌, ◌==◌, ◌&&◌, Bool, true, false, not, List, [], ◌∷◌, ◌++◌, Option, Some, None}
-use Rattle.std.proofs.Common.{map, length}
-use Rattle.std.proofs.Common.{refl, sym, ap, ◌∙◌, subst, arith}
+use Rattle.std.proofs.Common.{◌≡◌, ℕ, ◌==◌, ◌&&◌, Bool, true, false, not, List, [], ◌∷◌, ◌++◌, Option, Some, None, map}
+use Rattle.std.proofs.Common.{length, refl, sym, ap, ◌∙◌, subst, arith, ◌⊎◌, inl, inr, ⊎_elim, ◌+◌, drop}
 use Rattle.std.proofs.lemmas.Bool.{true≢false}
 use Rattle.std.proofs.lemmas.Option.{none-some}
 use Rattle.std.specs.Prelude.{slice_range, if◌then◌else◌, unwrap_or}
@@ -13,63 +12,212 @@ use Rattle.markdown_base.specs.declared.tag.HeadingLevel.{HeadingLevel}
 use Rattle.markdown_builder.specs.BuilderView.{BuilderView}
 use Rattle.markdown_builder.specs.TreeLevels.{followed_by}
 use Rattle.markdown_scan.specs.Entity.{entity_names}
-use Rattle.markdown_scan.specs.LineStart.{Space, leading_space}
-use Rattle.markdown_lines.specs.BlockBeginnings as line
+use Rattle.markdown_scan.specs.LineStart.{Space, leading_space, LineLeft}
 use Rattle.markdown_base.specs.Source.{Source}
 use Rattle.markdown_lines.specs.BlockBeginnings.{Beginning, begins, begins_after, is_paragraph, is_reached}
+use Rattle.markdown_lines.specs.BlockBeginnings.{break_in_line, first_found, footnote_marker, item_in_line, item_of}
+use Rattle.markdown_lines.specs.BlockBeginnings.{past_bytes, quote_of, quote_or_alert}
 use Rattle.markdown_lines.specs.DefinitionRules.{divided}
-use Rattle.markdown_lines.specs.Lines.{IsLineFrom}
+use Rattle.markdown_lines.specs.Lines.{IsLineFrom, is_space_or_tab}
 use Rattle.markdown_lines.specs.SourceLines.{SourceLine, is_blank_rest}
-use Rattle.markdown_lines.specs.ThematicBreaks.{is_thematic_break}
-use Rattle.markdown_lines.specs.declared.block_start.Before as block_start
-use Rattle.markdown_lines.specs.declared.block_start.Before.TheVariants as paragraph
-use Rattle.markdown_lines.specs.declared.block_start.BlockStart.TheVariants as start
+use Rattle.markdown_lines.specs.ThematicBreaks.{is_thematic_break, setext_level, underline_level}
 use Rattle.markdown_lines.specs.declared.line.Line.{Line}
-use Rattle.markdown_block_rules.specs.BlockGrowth as was
 use Rattle.markdown_block_rules.specs.BlockGrowth.{Block, begins_but_underline, goes_on, table_with, with_line}
+use Rattle.markdown_block_rules.specs.BlockGrowth.{content_of}
 use Rattle.markdown_block_rules.specs.BlockRules.{is_blank_block}
 use Rattle.markdown_plain.specs.declared.beginnings.LineRest.{LineRest}
 use Rattle.markdown_plain.specs.declared.looseness.Looseness.{Looseness}
 use Rattle.markdown_plain.specs.declared.pass.Pass.{Pass}
 use Rattle.markdown_plain.specs.Beginning.{HasBegun, HoldsNone, IsFirst, IsFound, IsHere, IsLeft, Turn, first, later}
-use Rattle.markdown_plain.specs.Closable.{AreAhead, EndsHeading, HaveTask}
 use Rattle.markdown_plain.specs.Containers.{whole_line}
 use Rattle.markdown_plain.specs.Closing.{AreItemsInLists, MayEnd}
-use Rattle.markdown_plain.specs.Fitting.{defining as with_definitions}
+use Rattle.markdown_plain.specs.ParagraphSteps.{EndsTo, MayEndParagraph, ended_at}
 use Rattle.markdown_plain.specs.Frames.{Frame, is_item, reached, rebuilt, touched}
 use Rattle.markdown_plain.specs.HeldSources.{IsParagraph}
 use Rattle.markdown_plain.specs.OpenLeaves.{HoldsParagraph, IsPlaced, ended_block, leaf_block}
-use Rattle.markdown_plain.specs.Paragraphs.{IsPlacedTo, UnderlinesNothing, divided_of, has_paragraph, lines_end}
+use Rattle.markdown_plain.specs.Paragraphs.{UnderlinesNothing, divided_of, has_paragraph}
 use Rattle.markdown_plain.specs.ReachedFrames.{are_none}
 use Rattle.markdown_plain.specs.ReachedLines.{reached_of}
 use Rattle.markdown_plain.specs.Settled.{BlanksKnown, IsLooseAs, QuotesEnd}
 use Rattle.markdown_plain.specs.Standing.{PlacesFor, with_last}
 use Rattle.markdown_plain.specs.TextLines.{IsContentAt, held_line}
 use Rattle.markdown_plain.proofs.AddedLinesLemmas.{has_held, no_leaf_open}
-use Rattle.markdown_plain.proofs.AddedTextLemmas as added
 use Rattle.markdown_plain.proofs.AddedTextLemmas.{IsFurtherText, around_text, loose_as_leaf}
 use Rattle.markdown_plain.proofs.BegunBlocksLemmas.{source_kept}
 use Rattle.markdown_plain.proofs.BegunLeavesLemmas.{no_paragraph}
 use Rattle.markdown_plain.proofs.BlankStandingLemmas.{next_after, none_inside}
 use Rattle.markdown_plain.proofs.BlanksKnownLemmas.{same_touched}
-use Rattle.markdown_plain.proofs.ClosableLemmas as held
 use Rattle.markdown_plain.proofs.RememberedTextLemmas.{makes_no_table, remembered_kind}
 use Rattle.markdown_plain.specs.TableHeads.{IsUntabled}
 use Rattle.markdown_plain.proofs.FoundPlacesLemmas.{left_content}
 use Rattle.markdown_plain.proofs.FramesLemmas.{goes_on_last}
 use Rattle.markdown_plain.proofs.GrownLeavesLemmas.{placed_touched}
-use Rattle.markdown_plain.proofs.InnerBeginningsLemmas.{BeginsInside, after_inside}
+use Rattle.markdown_plain.proofs.LineBeginningsLemmas.{BeginsInside, after_inside}
 use Rattle.markdown_plain.proofs.ItemsInListsLemmas.{line_keeps}
 use Rattle.markdown_plain.proofs.LastBlocksLemmas.{leaf_is_over, open_are_containers}
-use Rattle.markdown_plain.proofs.LineBeginningsLemmas.{begins_holds}
+use Rattle.markdown_plain.proofs.LineBeginningsLemmas.{IfFound, any_holds, begins_holds, leaves_hold}
 use Rattle.markdown_plain.proofs.LooseFramesLemmas.{ends_more}
 use Rattle.markdown_plain.proofs.PlacedTextLemmas.{text_added}
 use Rattle.markdown_plain.proofs.ReachedLemmas.{all_go_on, reached_next}
 use Rattle.markdown_plain.proofs.ReadyPlacesLemmas.{next_between, ready_last}
 use Rattle.markdown_plain.proofs.ReadyTextsLemmas.{again_ready}
-use Rattle.markdown_plain.proofs.TextStepsLemmas.{AddsText}
+use Rattle.markdown_plain.specs.PassSteps.{AddsText}
 use Rattle.markdown_plain.proofs.TouchedFramesLemmas.{earlier_touched, quotes_touched}
-use Rattle.markdown_plain.proofs.UnderlineLinesLemmas.{row_begins, row_bytes, row_is_left}
+use Rattle.std.proofs.Math.Bool.{and-false}
+use Rattle.std.proofs.lemmas.Bool.Decides.{nat_tests}
+use Rattle.std.specs.List.{list_all, prefix_len}
+use Rattle.markdown_lines.specs.ListMarkers.{if_it_stands, marker_of}
+use Rattle.markdown_block_rules.proofs.BlockBeginningsLemmas.{either}
+use Rattle.markdown_plain.proofs.BegunLemmas.{IsLeftOf, left_from_is_of, space_is_of}
+use Rattle.markdown_plain.proofs.ReachedFramesLemmas.{space_alike}
+use Rattle.markdown_lines.specs.BlockBeginnings as line
+use Rattle.markdown_lines.specs.declared.block_start.Before as block_start
+use Rattle.markdown_lines.specs.declared.block_start.Before.TheVariants as paragraph
+use Rattle.markdown_lines.specs.declared.block_start.BlockStart.TheVariants as start
+use Rattle.markdown_block_rules.specs.BlockGrowth as was
+use Rattle.markdown_plain.proofs.AddedTextLemmas as added
+use Rattle.markdown_plain.proofs.ClosableLemmas as held
+
+-- ---- the bytes of a line that looks like an underline
+
+-- a row of one character
+record IsRow (head : ℕ) (bytes : List ℕ) : Type 0 where
+  mark : (head ≡ 61) ⊎ (head ≡ 45)
+  white : list_all is_space_or_tab (drop (prefix_len (λ b. b == head) (head ∷ bytes)) (head ∷ bytes)) ≡ true
+
+row_of : (head : ℕ) (bytes : List ℕ) (level : HeadingLevel) → setext_level (head ∷ bytes) ≡ Some level
+    → IsRow head bytes
+row_of head bytes level is =
+    by_white (list_all is_space_or_tab (drop (prefix_len (λ b. b == head) (head ∷ bytes)) (head ∷ bytes))) refl
+  where
+    by_mark : (equals hyphen : Bool) → (head == 61) ≡ equals → (head == 45) ≡ hyphen
+        → underline_level head ≡ Some level → (head ≡ 61) ⊎ (head ≡ 45)
+    by_mark true hyphen one other is = inl (grind (arith, nat_tests, one))
+    by_mark false true one other is = inr (grind (arith, nat_tests, other))
+    by_mark false false one other is = absurd (none-some level (sym (rw (one, other) refl) ∙ is))
+
+    by_white : (white : Bool)
+        → list_all is_space_or_tab (drop (prefix_len (λ b. b == head) (head ∷ bytes)) (head ∷ bytes)) ≡ white
+        → IsRow head bytes
+    by_white true white = record {
+      mark = by_mark (head == 61) (head == 45) refl refl
+          (ap (λ test. if test then underline_level head else None) (sym white) ∙ is);
+      white = white;
+    }
+    by_white false white =
+        absurd (none-some level (ap (λ test. if test then underline_level head else None) (sym white) ∙ is))
+
+-- it begins with no white space
+no_white : (bytes : List ℕ) (level : HeadingLevel) → setext_level bytes ≡ Some level
+    → prefix_len is_space_or_tab bytes ≡ 0
+no_white [] level is = refl
+no_white (head ∷ bytes) level is =
+    ⊎_elim (λ same. subst (λ byte. prefix_len is_space_or_tab (byte ∷ bytes) ≡ 0) (sym same) refl)
+    (λ same. subst (λ byte. prefix_len is_space_or_tab (byte ∷ bytes) ≡ 0) (sym same) refl)
+    (row_of head bytes level is).mark
+
+-- a hyphen marks no item that may interrupt a paragraph, if more hyphens or only white space follow it
+hyphens_mark_none : (bytes : List ℕ)
+    → list_all is_space_or_tab (drop (prefix_len (λ b. b == 45) (45 ∷ bytes)) (45 ∷ bytes)) ≡ true
+    → if_it_stands (marker_of (45 ∷ bytes)) (45 ∷ bytes) true ≡ None
+hyphens_mark_none [] white = refl
+hyphens_mark_none (b ∷ bytes) white = by_byte (b == 45) refl
+  where
+    by_byte : (hyphen : Bool) → (b == 45) ≡ hyphen
+        → if_it_stands (marker_of (45 ∷ b ∷ bytes)) (45 ∷ b ∷ bytes) true ≡ None
+    by_byte true same =
+        let is : b ≡ 45 = grind (arith, nat_tests, same) in
+        subst (λ byte. if_it_stands (marker_of (45 ∷ byte ∷ bytes)) (45 ∷ byte ∷ bytes) true ≡ None) (sym is) refl
+    by_byte false other =
+        let rest : list_all is_space_or_tab (b ∷ bytes) ≡ true = rw other at white in
+        rw (rest, and-false (is_space_or_tab b)) refl
+
+row_marks_none : (bytes : List ℕ) (level : HeadingLevel) → setext_level bytes ≡ Some level
+    → if_it_stands (marker_of bytes) bytes true ≡ None
+row_marks_none [] level is = refl
+row_marks_none (head ∷ bytes) level is =
+    let row = row_of head bytes level is in
+    ⊎_elim (λ same. subst (λ byte. if_it_stands (marker_of (byte ∷ bytes)) (byte ∷ bytes) true ≡ None) (sym same) refl)
+    (λ same. subst (λ byte. if_it_stands (marker_of (byte ∷ bytes)) (byte ∷ bytes) true ≡ None) (sym same)
+    (hyphens_mark_none bytes (subst (λ byte. list_all is_space_or_tab (drop (prefix_len (λ b. b == byte)
+    (byte ∷ bytes)) (byte ∷ bytes)) ≡ true) same row.white))) row.mark
+
+-- ---- what such a line begins
+
+-- an underline that a line begins has this content
+abbrev HasLevel : List ℕ → Beginning → Type 0
+HasLevel bytes (line.begins_underline level) = setext_level bytes ≡ Some level
+HasLevel bytes other = Unit
+
+level_found : (bytes : List ℕ) (found : Option HeadingLevel) → setext_level bytes ≡ found
+    → IfFound (HasLevel bytes) (option_map line.begins_underline found)
+level_found bytes None is = tt
+level_found bytes (Some level) is = is
+
+after_level : (s : Source) (before : block_start.Before) (columns : ℕ) (here : LineLeft)
+    → HasLevel here.bytes (begins_after s before columns here)
+after_level s before columns here =
+    let has = HasLevel here.bytes in
+    any_holds has s before columns here
+    (leaves_hold has s before columns here tt (λ heading. tt) (λ opening. tt) (λ kind. tt)
+    (either (IfFound has) (is_reached before) (option_map line.begins_underline (setext_level here.bytes)) None
+    (level_found here.bytes (setext_level here.bytes) refl) tt) tt)
+    (record {
+      quote = λ rest is. tt;
+      alert = λ kind. tt;
+      footnote = λ label rest is. tt;
+      item = λ marker indent rest is. tt;
+    })
+
+level_of : (s : Source) (before : block_start.Before) (l : SourceLine) (level : HeadingLevel)
+    → begins s before l ≡ line.begins_underline level → setext_level (leading_space 4 l.left).after.bytes ≡ Some level
+level_of s before l level is =
+    let space = leading_space 4 l.left in
+    subst (HasLevel space.after.bytes) is (begins_holds (HasLevel space.after.bytes) s before l tt tt (λ kind. tt)
+    (after_level s before space.columns space.after))
+
+-- where it underlines nothing
+pub row_begins : (s : Source) (before : block_start.Before) (l : SourceLine) (level : HeadingLevel)
+    → IsLeftOf s.text l.left → begins s before l ≡ line.begins_underline level → begins_but_underline s l
+    ≡ (if is_thematic_break (leading_space 4 l.left).after.bytes then line.begins_break else line.begins_text)
+row_begins s before l level own is =
+    ap (λ item. first_found (break_in_line here ∷ item ∷ [])) no_item ∙ by_break (is_thematic_break here.bytes)
+  where
+    here : LineLeft
+    here = (leading_space 4 l.left).after
+
+    columns : ℕ
+    columns = (leading_space 4 l.left).columns
+
+    no_item : item_in_line s paragraph.Reached columns here ≡ None
+    no_item =
+        ap (λ content. option_map (item_of columns here) (if_it_stands (marker_of content) content true))
+        (space_is_of s.text 4 l.left own)
+        ∙ ap (option_map (item_of columns here)) (row_marks_none here.bytes level (level_of s before l level is))
+
+    by_break : (break : Bool) → first_found ((if break then Some line.begins_break else None) ∷ None ∷ [])
+        ≡ (if break then line.begins_break else line.begins_text)
+    by_break true = refl
+    by_break false = refl
+
+-- the pass reads its bytes
+pub row_bytes : (s : Source) (rest : LineRest) (source : SourceLine) (at : ℕ) (level : HeadingLevel)
+    → IsLeft s rest source → at ≡ content_of source → begins s rest.before source ≡ line.begins_underline level
+    → slice_range s.text at rest.line.stop ≡ (leading_space 4 source.left).after.bytes
+row_bytes s rest source at level left there is =
+    let here = (leading_space 4 source.left).after in
+    let alike = space_alike 4 source.left in
+    let from : at ≡ here.scanned =
+    omega (arith, there, alike.content, no_white here.bytes level (level_of s rest.before source level is)) in
+    let to : rest.line.stop ≡ here.scanned + length here.bytes = omega (arith, left.is.stop, alike.end) in
+    ap (λ n. slice_range s.text n rest.line.stop) from ∙ (ap (slice_range s.text here.scanned) to
+    ∙ space_is_of s.text 4 source.left
+    (left_from_is_of s.text rest.position rest.line.stop source.left left.is.rest.left))
+
+pub row_is_left : (s : Source) (rest : LineRest) (source : SourceLine) → IsLeft s rest source
+    → IsLeftOf s.text source.left
+row_is_left s rest source left =
+    left_from_is_of s.text rest.position rest.line.stop source.left left.is.rest.left
 
 -- ---- the line begins an underline
 
@@ -124,42 +272,6 @@ is_reached_one paragraph.Reached reaches = refl
 abbrev pub is_defining : Source → List SourceLine → Bool
 is_defining s lines = length (divided (entity_names s.syntax) s.text lines).lines == 0
 
-paragraph_heads : (s : Source) (l : SourceLine) (begin top last : ℕ) (lines : List SourceLine)
-    (level : HeadingLevel)
-    → table_with s l (record { start = begin; first = top; last = last; kind = was.paragraph_leaf lines })
-    (was.paragraph_leaf lines) ≡ None
-    → is_blank_rest l ≡ false
-    → begins s paragraph.Reached l ≡ line.begins_underline level → is_defining s lines ≡ false
-    → goes_on s (leaf_block (record { start = begin; first = top; last = last; kind = was.paragraph_leaf lines })) l
-    ≡ Some (leaf_block (record {
-      start = begin;
-      first = top;
-      last = l.next;
-      kind = was.underlined_leaf level lines;
-    }))
-unfolding goes_on
-paragraph_heads s l begin top last lines level untabled filled underlines some =
-    ap (λ (made : Option (Forest Block)). option_or made (option_or
-    (option_map (λ kind. node (record { start = begin; first = top; last = l.next; kind = kind }) nil nil)
-    (was.leaf_with s l (was.paragraph_leaf lines))) None)) untabled
-    ∙ rw (filled, underlines, some) refl
-
-paragraph_ends : (s : Source) (l : SourceLine) (begin top last : ℕ) (lines : List SourceLine)
-    (level : HeadingLevel)
-    → table_with s l (record { start = begin; first = top; last = last; kind = was.paragraph_leaf lines })
-    (was.paragraph_leaf lines) ≡ None
-    → is_blank_rest l ≡ false
-    → begins s paragraph.Reached l ≡ line.begins_underline level → is_defining s lines ≡ true
-    → begins_but_underline s l ≡ line.begins_break
-    → goes_on s (leaf_block (record { start = begin; first = top; last = last; kind = was.paragraph_leaf lines })) l
-    ≡ None
-unfolding goes_on
-paragraph_ends s l begin top last lines level untabled filled underlines none breaks =
-    ap (λ (made : Option (Forest Block)). option_or made (option_or
-    (option_map (λ kind. node (record { start = begin; first = top; last = l.next; kind = kind }) nil nil)
-    (was.leaf_with s l (was.paragraph_leaf lines))) None)) untabled
-    ∙ rw (filled, underlines, none, breaks) refl
-
 -- where there is nothing else that it begins, the line is text of it
 further_text : (s : Source) (l : SourceLine) (lines : List SourceLine) (level : HeadingLevel)
     → begins s paragraph.Reached l ≡ line.begins_underline level → is_defining s lines ≡ true
@@ -175,41 +287,43 @@ last_heads : (s : Source) (l : SourceLine) (before : Forest Block) (b : Block) (
     → b.kind ≡ was.paragraph_leaf lines → is_blank_rest l ≡ false
     → begins s paragraph.Reached l ≡ line.begins_underline level → is_defining s lines ≡ false
     → with_line s (followed_by before (leaf_block b)) l ≡ followed_by before (leaf_block (headed b level lines l.next))
+unfolding goes_on
 last_heads s l before b lines level untabled is filled underlines some =
-    let same = ap (λ kind. goes_on s (leaf_block (record b { kind = kind })) l) is
-    ∙ paragraph_heads s l b.start b.first b.last lines level
-    (untabled (record b { kind = was.paragraph_leaf lines })) filled underlines some in
+    let c : Block = record b { kind = was.paragraph_leaf lines } in
+    let heads : goes_on s (leaf_block c) l ≡ Some (leaf_block (headed b level lines l.next)) =
+    ap (λ (made : Option (Forest Block)). option_or made (option_or
+    (option_map (λ kind. node (record b { last = l.next; kind = kind }) nil nil)
+    (was.leaf_with s l (was.paragraph_leaf lines))) None)) (untabled c) ∙ rw (filled, underlines, some) refl in
     ap (λ grown. unwrap_or grown (followed_by (followed_by before (leaf_block b)) (was.line_block s l)))
-    (goes_on_last s before b nil l ∙ ap (option_map (followed_by before)) same)
+    (goes_on_last s before b nil l ∙ ap (option_map (followed_by before))
+    (ap (λ kind. goes_on s (leaf_block (record b { kind = kind })) l) is ∙ heads))
 
 last_ends : (s : Source) (l : SourceLine) (before : Forest Block) (b : Block) (lines : List SourceLine)
     (level : HeadingLevel) → ((b : Block) → table_with s l b (was.paragraph_leaf lines) ≡ None)
     → b.kind ≡ was.paragraph_leaf lines → is_blank_rest l ≡ false
     → begins s paragraph.Reached l ≡ line.begins_underline level → is_defining s lines ≡ true
     → begins_but_underline s l ≡ line.begins_break → goes_on s (followed_by before (leaf_block b)) l ≡ None
+unfolding goes_on
 last_ends s l before b lines level untabled is filled underlines none breaks =
-    goes_on_last s before b nil l
-    ∙ ap (option_map (followed_by before)) (ap (λ kind. goes_on s (leaf_block (record b { kind = kind })) l) is
-    ∙ paragraph_ends s l b.start b.first b.last lines level
-    (untabled (record b { kind = was.paragraph_leaf lines })) filled underlines none breaks)
+    let c : Block = record b { kind = was.paragraph_leaf lines } in
+    let ends : goes_on s (leaf_block c) l ≡ None = ap (λ (made : Option (Forest Block)). option_or made (option_or
+    (option_map (λ kind. node (record b { last = l.next; kind = kind }) nil nil)
+    (was.leaf_with s l (was.paragraph_leaf lines))) None)) (untabled c) ∙ rw (filled, underlines, none, breaks) refl in
+    goes_on_last s before b nil l ∙ ap (option_map (followed_by before))
+    (ap (λ kind. goes_on s (leaf_block (record b { kind = kind })) l) is ∙ ends)
 
 -- ---- what the pass makes of it
 
 -- the open paragraph was ended with its underline, and something was left of it after its definitions, or not
 pub record EndsUnderlined (old new : Pass) (level : HeadingLevel) (line : Line) (some : Bool) : Type 0 where
   pub same : new ≡ record old { placing = new.placing; lines = new.lines }
-  pub text : new.placing.builder.text ≡ old.placing.builder.text
   pub emptied : new.lines.items ≡ []
   pub left : (sources : List SourceLine) → IsParagraph old.placing.builder.text old.lines.items sources
       → some ≡ not (length (divided_of old sources).lines == 0)
   pub frame : (s : Source) (frames : List Frame) (inside : Forest Block) (b : Block) (sources : List SourceLine)
       → HoldsParagraph s old frames inside b sources → s.syntax ≡ old.syntax → IsPlaced s new.placing.builder frames
       (followed_by inside (leaf_block (ended_block b sources some (Some (level, line)))))
-  pub ends : some ≡ true → IsPlacedTo (record old.placing.builder { definitions = new.placing.builder.definitions })
-      new.placing.builder line.next
-  pub defines : some ≡ false → new.placing.builder ≡ with_definitions old.placing.builder
-      new.placing.builder.definitions new.placing.builder.at
-  pub after : some ≡ false → 0 < length old.lines.items → new.placing.builder.at ≡ lines_end old.lines.items
+  pub ends : EndsTo old.placing.builder new.placing.builder (ended_at old some (Some (level, line)))
 
 -- where the pass finds that the line underlines nothing, it is text that follows definitions alone
 nothing_is : (break defining : Bool) → true ≡ (not break && defining) → (break ≡ false) × (defining ≡ true)
@@ -258,38 +372,34 @@ module _ (s : Source) (old new : Pass) (rest : LineRest) (level : HeadingLevel) 
   defining some left = subst (λ (r : Source). some ≡ not (is_defining r sources)) here.holds.source left
 
   -- where something is left of it, the line makes a heading of it
-  heading_made : is_defining s sources ≡ false
-      → blocks ≡ rebuilt (map (touched l) frames) (followed_by inside
+  heading_made : is_defining s sources ≡ false → blocks ≡ rebuilt (map (touched l) frames) (followed_by inside
       (leaf_block (headed b level sources rest.line.next)))
   heading_made some =
       let r = reached s frames now l in
       let next : r.rest.next ≡ rest.line.next = reached_next s frames now l ∙ sym here.is.next in
       let goes = last_heads s r.rest inside b sources level
       (subst (λ (m : SourceLine). (c : Block) → table_with s m c (was.paragraph_leaf sources) ≡ None) here.reached
-      untabled) holds.kind
-      (ap is_blank_rest (sym here.reached) ∙ here.filled)
+      untabled) holds.kind (ap is_blank_rest (sym here.reached) ∙ here.filled)
       (ap (begins s paragraph.Reached) (sym here.reached) ∙ underlines) some in
-      here.whole
-      ∙ (all_go_on s frames now l
+      here.whole ∙ (all_go_on s frames now l
       (open_are_containers old.placing.builder.texts old.placing.builder.blocks frames holds.built.blocks)
       holds.built.nested all (around_text false frames inside b (ap is_item holds.kind) (ap is_blank_block holds.kind)
-      may.items)
-      ∙ (ap (rebuilt (map (touched l) frames)) goes
+      may.items) ∙ (ap (rebuilt (map (touched l) frames)) goes
       ∙ ap (λ to. rebuilt (map (touched l) frames) (followed_by inside (leaf_block (headed b level sources to)))) next))
 
   heading_placed : EndsUnderlined old new level rest.line true → PlacesFor s new rest.line.next blocks
   heading_placed ends =
+      let text = ap (λ (b : BuilderView). b.text) ends.ends in
       let h = headed b level sources rest.line.next in
       let at_end = followed_by inside (leaf_block h) in
       let placed = ends.frame s frames inside b sources holds may.syntax in
-      let whole = heading_made (heads_not (is_defining s sources)
-      (defining true (ends.left sources holds.lines))) in
+      let whole = heading_made (heads_not (is_defining s sources) (defining true (ends.left sources holds.lines))) in
       record {
         frames = map (touched l) frames;
         inside = at_end;
         last = None;
         places = record {
-          source = source_kept s old new ends.text (ap (λ (p : Pass). p.syntax) ends.same) here.holds.source;
+          source = source_kept s old new text (ap (λ (p : Pass). p.syntax) ends.same) here.holds.source;
           unended = (
             placed_touched l s new.placing.builder frames at_end placed,
             ends.emptied,
@@ -312,8 +422,7 @@ module _ (s : Source) (old new : Pass) (rest : LineRest) (level : HeadingLevel) 
           ready = ready_last s new frames at_end None rest.line.next
               (placed, ends.emptied, leaf_is_over s inside h refl) ends.emptied
               (ap (λ (p : Pass). p.blanks.items) ends.same ∙ here.holds.unheld holds.built.outside)
-              (ap (λ (b : BuilderView). b.at) (ends.ends refl))
-              (subst (λ text. IsCharBoundary text rest.line.next) (sym ends.text)
+              (ap (λ (b : BuilderView). b.at) ends.ends) (subst (λ text. IsCharBoundary text rest.line.next) (sym text)
               (next_between old.placing.builder.text rest.line.start rest.line here.is.utf8 here.is.from));
         };
         whole = whole;
@@ -324,22 +433,9 @@ module _ (s : Source) (old new : Pass) (rest : LineRest) (level : HeadingLevel) 
   rest_again = record rest { before = paragraph.NoParagraph }
 
   left_again : IsLeft s rest_again source
-  left_again = record {
-    is = here.left.is;
-    text = here.left.text;
-    stop = here.left.stop;
-    start = here.left.start;
-    next = here.left.next;
-    indent = here.left.indent;
-    outermost = here.left.outermost;
-    after = here.left.after;
-    boundary = here.left.boundary;
-    from = here.left.from;
-    utf8 = here.left.utf8;
-  }
+  left_again = assumption (here.left)
 
-  over_again : is_defining s sources ≡ true
-      → goes_on s (rebuilt (reached s frames now l).inner now) source ≡ None
+  over_again : is_defining s sources ≡ true → goes_on s (rebuilt (reached s frames now l).inner now) source ≡ None
   over_again none =
       ap (λ (fs : List Frame). goes_on s (rebuilt fs now) source) all
       ∙ last_ends s source inside b sources level untabled holds.kind here.filled underlines none (breaks none)
@@ -347,14 +443,14 @@ module _ (s : Source) (old new : Pass) (rest : LineRest) (level : HeadingLevel) 
   here_again : EndsUnderlined old new level rest.line false
       → IsFirst s new rest_again (record { frames = frames; inside = now; last = None }) l source blocks
   here_again ends =
+      let text = ap (λ (b : BuilderView). b.text) ends.ends in
       let placed = ends.frame s frames inside b sources holds may.syntax in
-      let none = ends_not (is_defining s sources)
-      (defining false (ends.left sources holds.lines)) in
+      let none = ends_not (is_defining s sources) (defining false (ends.left sources holds.lines)) in
       let looseness = ap (λ (p : Pass). p.looseness) ends.same in
       record {
         untabled = tt;
         holds = record {
-          source = source_kept s old new ends.text (ap (λ (p : Pass). p.syntax) ends.same) here.holds.source;
+          source = source_kept s old new text (ap (λ (p : Pass). p.syntax) ends.same) here.holds.source;
           unended = (
             record {
               stands = record {
@@ -365,7 +461,7 @@ module _ (s : Source) (old new : Pass) (rest : LineRest) (level : HeadingLevel) 
                 };
                 items = may.items;
               };
-              lists = ap (λ (n : Looseness). n.lists.items) looseness ∙ may.lists;
+              loose = rw looseness may.loose;
             },
             ends.emptied,
           );
@@ -380,21 +476,16 @@ module _ (s : Source) (old new : Pass) (rest : LineRest) (level : HeadingLevel) 
                 placed = ap (λ (p : Pass). p.placed) ends.same;
                 emptied = ends.emptied;
                 outside = placed.built.outside;
-                defines = ends.defines refl;
-                after = ends.after refl holds.some;
-              })
-              here.holds.ready;
+                ends = ends.ends;
+              }) here.holds.ready;
         };
-        is = record {
-          left = ap (λ text. whole_line text rest.line) ends.text ∙ here.is.left;
-          stop = here.is.stop;
-          next = here.is.next;
-          outermost = here.is.outermost;
-          indent = here.is.indent;
-          from = subst (λ text. IsLineFrom text rest.line.start rest.line) (sym ends.text) here.is.from;
-          boundary = subst (λ text. IsCharBoundary text rest.line.start) (sym ends.text) here.is.boundary;
-          utf8 = subst IsUtf8 (sym ends.text) here.is.utf8;
-        };
+        is = assumption (
+          ap (λ text. whole_line text rest.line) text ∙ here.is.left,
+          here.is,
+          subst (λ text. IsLineFrom text rest.line.start rest.line) (sym text) here.is.from,
+          subst (λ text. IsCharBoundary text rest.line.start) (sym text) here.is.boundary,
+          subst IsUtf8 (sym text) here.is.utf8,
+        );
         reached = here.reached;
         left = left_again;
         depth = here.depth;
@@ -540,24 +631,16 @@ underline_added s old new rest turn source at blocks level here found tells adds
       same = adds.goes_on some;
       lines = adds.lines
           ∙ ap (λ (has : Bool). (if has then old.lines.items else []) ++ held_line rest.line at ∷ []) some;
-      further = adds.further;
     }) (subst (λ text. IsContentAt text rest.line r.rest at) same
     (subst (λ (m : SourceLine). IsContentAt s.text rest.line m at) first.reached content))
     (added.reaches all (subst (λ (m : SourceLine). IsFurtherText s m sources) first.reached further))))
 
 -- ---- the calls fit
 
--- a paragraph may be ended with a line that underlines it
-pub record MayEndWith (pass : Pass) (heading : Option (HeadingLevel × Line)) : Type 0 where
-  pub outside : pass.placing.builder.leaf ≡ false
-  pub ahead : AreAhead pass.placing.builder pass.lines.items
-  pub task : HaveTask pass.placing.builder.text pass.task pass.lines.items
-  pub ends : EndsHeading pass.placing.builder.text pass.lines.items heading
-
 -- so it is where the line begins an underline
 pub underline_fits : (s : Source) (pass : Pass) (rest : LineRest) (turn : Turn) (source : SourceLine) (at : ℕ)
     (blocks : Forest Block) (level : HeadingLevel) → IsHere s pass rest turn source blocks
-    → IsFound s rest source at (start.Underline level) → MayEndWith pass (Some (level, rest.line))
+    → IsFound s rest source at (start.Underline level) → MayEndParagraph pass (Some (level, rest.line))
 underline_fits s pass rest (first before l) source at blocks level here found =
     let begun = found_begins (line.begins_underline level) (begins s rest.before source) (is_blank_rest source)
     found.is in
@@ -565,14 +648,12 @@ underline_fits s pass rest (first before l) source at blocks level here found =
     let inner = (reached_of s before l).inner in
     let held = reached_all (has_paragraph pass) (are_none inner) (sym (ap is_reached here.paragraph) ∙ reaches) in
     let outside = no_leaf_open pass held.0 in
-    let low = here.holds.before in
-    let next = next_after pass rest.line l here.is in
     record {
       outside = outside;
       ahead = here.holds.ready.closable.held outside;
       task = here.holds.ready.closable.task;
-      ends = (
-        omega (arith, low, next),
+      heading_ends = (
+        omega (arith, here.holds.before, next_after pass rest.line l here.is),
         next_between pass.placing.builder.text rest.line.start rest.line here.is.utf8 here.is.from,
       );
     }

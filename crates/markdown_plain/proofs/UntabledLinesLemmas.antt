@@ -1,19 +1,20 @@
 -- The last line of the open paragraph, as it is remembered; and what is remembered with one more line, which makes no
--- table of the paragraph.
+-- table of the paragraph: as a line does that begins as text.
 use Rattle.std.proofs.Common.{◌≡◌, ℕ, zero, suc, ◌-◌, ◌<◌, Bool, true, false, not, ◌&&◌, ◌||◌, ◌==◌, List, [], ◌∷◌}
 use Rattle.std.proofs.Common.{◌++◌, Option, Some, None, length, arith, refl, sym, ap, ◌∙◌, subst, true≢false}
-use Rattle.std.specs.Prelude.{Err, IfOk, Ok, Result, if◌then◌else◌, slice_get}
+use Rattle.std.specs.Prelude.{if◌then◌else◌, slice_get}
 use Rattle.std.specs.Option.{is_some}
 use Rattle.std.proofs.lemmas.Bool.Decides.{nat_tests}
 use Rattle.std.proofs.lemmas.List.{append_assoc}
 use Rattle.markdown_base.specs.Forest.{Forest}
 use Rattle.markdown_base.specs.declared.tag.Alignment.{Alignment}
 use Rattle.markdown_base.specs.Source.{Source}
-use Rattle.markdown_lines.specs.SourceLines.{SourceLine, text_line}
+use Rattle.markdown_lines.specs.SourceLines.{SourceLine, text_line, is_blank_rest, stop_of}
 use Rattle.markdown_lines.specs.declared.held_line.HeldLine.{HeldLine}
 use Rattle.markdown_block_rules.specs.BlockGrowth as was
-use Rattle.markdown_block_rules.specs.BlockGrowth.{Block, Kind}
+use Rattle.markdown_block_rules.specs.BlockGrowth.{Block, Kind, cut_paragraph, table_after, table_of_lines}
 use Rattle.markdown_block_rules.specs.TableLines.{alignments_for, fitting, further_line, hold_fitting, reads_tables}
+use Rattle.markdown_block_rules.specs.TableLines.{is_near, may_be_head}
 use Rattle.markdown_plain.specs.declared.pass.Pass.{Pass}
 use Rattle.markdown_plain.specs.Closing.{MayEnd}
 use Rattle.markdown_plain.specs.Frames.{Frame, Reached}
@@ -21,13 +22,24 @@ use Rattle.markdown_plain.specs.HeldSources.{IsParagraph}
 use Rattle.markdown_plain.specs.OpenLeaves.{HoldsParagraph, is_leaf}
 use Rattle.markdown_plain.specs.Paragraphs.{has_paragraph, lines_end, source_of}
 use Rattle.markdown_plain.specs.ReachedFrames.{are_none}
-use Rattle.markdown_plain.specs.Standing.{HasLast, KnowsLast}
-use Rattle.markdown_plain.specs.TableHeads.{IfParagraph, IfParagraphLast, IsLastLine, IsUntabled, Remembers}
-use Rattle.markdown_plain.specs.TableHeads.{next_line}
+use Rattle.markdown_plain.specs.Standing.{HasLast, KnowsLast, IsSource, Stands}
+use Rattle.markdown_plain.specs.TableHeads.{IfParagraph, IfParagraphLast, IsLastLine, IsUntabled, Remembers, next_line}
 use Rattle.markdown_plain.proofs.ClosableLemmas.{no_paragraph}
 use Rattle.markdown_plain.proofs.DividedLemmas.{as_many}
-use Rattle.markdown_plain.proofs.DelimiterRowsLemmas.{lazy_row}
-use Rattle.markdown_plain.proofs.TableBeginningsLemmas.{table_none}
+use Rattle.markdown_plain.proofs.DelimiterRowsLemmas.{lazy_row, table_none, either_none, no_row_fits}
+use Rattle.markdown_builder.specs.declared.open_block.OpenBlock.{OpenBlock}
+use Rattle.markdown_lines.specs.Positions.{left_from}
+use Rattle.markdown_lines.specs.TableRows.{delimiter_row_at}
+use Rattle.markdown_lines.specs.declared.line.Line.{Line}
+use Rattle.markdown_lines.specs.declared.position.Position.{Position}
+use Rattle.markdown_scan.specs.LineStart.{LineLeft, leading_space}
+use Rattle.markdown_plain.specs.declared.containers.Reached as code
+use Rattle.markdown_plain.specs.ReachedLines.{Before, IsReachedBy, blocks_in, reached_of}
+use Rattle.markdown_plain.specs.TextLines.{IsTextFrom}
+use Rattle.markdown_plain.proofs.LeafLinesLemmas.{before_line}
+use Rattle.markdown_plain.proofs.ReachedLemmas.{reached_indent}
+use Rattle.markdown_plain.proofs.ReadyPlacesLemmas.{no_frames}
+use Rattle.markdown_plain.proofs.ReadyTextsLemmas.{none_left}
 
 -- ---- the last line
 
@@ -61,9 +73,8 @@ pub last_line_of : (s : Source) (pass : Pass) (frames : List Frame) (inside : Fo
     → Remembers s pass from sources → HasLastLine s pass sources
 last_line_of s pass frames inside b sources from source holds remembers =
     let many = as_many pass.placing.builder.text pass.lines.items sources holds.lines.are in
-    let some = holds.some in
-    let parts = apart sources (omega (arith, many, some)) in
-    let head = line_there pass.lines.items (length pass.lines.items - 1) (omega (arith, some)) in
+    let parts = apart sources (omega (arith, many, holds.some)) in
+    let head = line_there pass.lines.items (length pass.lines.items - 1) (omega (arith, holds.some)) in
     record {
       head = head.0;
       before = parts.before;
@@ -115,7 +126,7 @@ untabled_lazily s pass from r sources lazy indent remembers =
 -- a line that is none is no table's
 pub untabled_line : (s : Source) (old new : Pass) (from : ℕ) (r : Reached) (sources : List SourceLine)
     → are_none r.inner ≡ true → Remembers s old from sources → (last : HasLastLine s old sources)
-    → new ≡ record old { tried = new.tried } → is_some (alignments_for s r.rest last.before last.last) ≡ false
+    → new ≡ record old { tried = new.tried } → alignments_for s r.rest last.before last.last ≡ None
     → new.tried ≡ hold_fitting s (last.before ++ last.last ∷ further_line s r.rest ∷ [])
     → IsUntabled s new from r sources
 untabled_line s old new from r sources all remembers last same none tried =
@@ -140,8 +151,7 @@ no_paragraph_last s pass frames inside b sources has kind = by_held has.0 has.1
     by_held : (held : Option (List SourceLine)) → MayEnd s pass frames inside b held → has_paragraph pass ≡ true
     by_held None may = absurd (true≢false (sym may.unended.0 ∙ ap is_leaf kind))
     by_held (Some others) may =
-        let some = may.unended.some in
-        let other : (length pass.lines.items == 0) ≡ false = grind (arith, nat_tests, some) in
+        let other : (length pass.lines.items == 0) ≡ false = grind (arith, nat_tests, may.unended.some) in
         ap (λ leaf. not leaf && not (length pass.lines.items == 0)) may.unended.built.outside ∙ ap not other
 
 -- ---- the paragraph that is open
@@ -167,8 +177,100 @@ open_paragraph s pass frames inside b from has remembers some reads = by_held ha
       remembers = subst (IfParagraph s (Remembers s pass from)) may.unended.kind remembers reads;
     }
 
--- what holds of a result by four facts
-pub if_ok_all : {A E : Type 0} {P Q R S T : A → Type 0} (r : Result A E) → ((x : A) → P x → Q x → R x → S x → T x)
-    → IfOk r P → IfOk r Q → IfOk r R → IfOk r S → IfOk r T
-if_ok_all (Ok x) so p q r s = so x p q r s
-if_ok_all (Err e) so p q r s = tt
+-- ---- a line that fits no head
+
+-- it makes no table of a paragraph
+rows_none : (s : Source) (l : SourceLine) (b : Block) (end : ℕ) (before lines : List SourceLine)
+    → ((head : SourceLine) → fitting s head (further_line s l) ≡ None) → table_of_lines s l b end before lines ≡ None
+rows_none s l b end before [] none = refl
+rows_none s l b end before (head ∷ []) none =
+    ap (table_after l (cut_paragraph b end before) head)
+    (either_none (may_be_head s before head) (fitting s head (further_line s l)) (none head))
+rows_none s l b end before (first ∷ next ∷ lines) none =
+    rows_none s l b first.next (before ++ first ∷ []) (next ∷ lines) none
+
+untabled_rows : (s : Source) (pass : Pass) (from : ℕ) (r : Reached) (sources : List SourceLine)
+    → r.rest.indent ≡ None → ((head : SourceLine) → fitting s head (further_line s r.rest) ≡ None)
+    → Remembers s pass from sources → IsUntabled s pass from r sources
+untabled_rows s pass from r sources indent none remembers = record {
+  ends = remembers.ends;
+  tried = remembers.tried ∙ sym (hold_none s sources (next_line s r) (λ head. fits head (are_none r.inner)));
+  none = λ all b. tables (is_blank_rest r.rest || not (reads_tables s)) b;
+}
+  where
+    fits : (head : SourceLine) (all : Bool)
+        → fitting s head (if all then further_line s r.rest else text_line r.rest) ≡ None
+    fits head true = none head
+    fits head false = lazy_row s head (text_line r.rest) indent
+
+    tables : (test : Bool) (b : Block)
+        → (if test then None else table_of_lines s r.rest b b.first [] sources) ≡ None
+    tables true b = refl
+    tables false b = rows_none s r.rest b b.first [] sources none
+
+-- ---- text
+
+-- a further line of which this is left begins where that does
+further_left : (s : Source) (l : SourceLine) (reads : Bool)
+    → (if reads then record (text_line l) { indent = Some (leading_space 4 l.left).columns } else text_line l).left
+    ≡ (text_line l).left
+further_left s l true = refl
+further_left s l false = refl
+
+no_row_left : (s : Source) (text : List ℕ) (position : Position) (stop : ℕ) (l : SourceLine) → s.text ≡ text
+    → l.left ≡ left_from text position stop → IsTextFrom text position stop → (head : SourceLine)
+    → fitting s head (further_line s l) ≡ None
+no_row_left s text position stop l same left shows head =
+    let row = further_line s l in
+    let at : row.left.scanned ≡ position.at =
+    ap (λ (left : LineLeft). left.scanned) (further_left s l (reads_tables s))
+    ∙ shows.here l left in
+    no_row_fits s head row (either_none (is_near row.indent) (delimiter_row_at s.text row.left.scanned (stop_of row))
+    (ap (λ (t : List ℕ). delimiter_row_at t row.left.scanned (stop_of row)) same
+    ∙ (ap (λ n. delimiter_row_at text n (stop_of row)) at ∙ shows.no_row (stop_of row))))
+
+-- such a line makes no table of the last block
+last_untabled : (s : Source) (pass : Pass) (from : ℕ) (r : Reached) (last : Option Block) → r.rest.indent ≡ None
+    → ((head : SourceLine) → fitting s head (further_line s r.rest) ≡ None)
+    → IfParagraphLast s (Remembers s pass from) last → IfParagraphLast s (IsUntabled s pass from r) last
+last_untabled s pass from r None indent none remembers = tt
+last_untabled s pass from r (Some b) indent none remembers =
+    of_paragraph s (Remembers s pass from) (IsUntabled s pass from r) b.kind
+    (λ sources kind reads. untabled_rows s pass from r sources indent none) remembers
+
+-- the line that is read is text
+pub text_untabled : (s : Source) (pass : Pass) (line : Line) (found : code.Reached) (before : Before)
+    (source : SourceLine) → IsReachedBy s pass line found before source
+    → IsTextFrom pass.placing.builder.text found.position line.stop
+    → IfParagraphLast s (IsUntabled s pass line.start (reached_of s before source)) before.last
+text_untabled s pass line found before source by shows =
+    let r = reached_of s before source in
+    last_untabled s pass line.start r before.last
+    (reached_indent s before.frames (blocks_in before) source ∙ by.is.indent)
+    (no_row_left s pass.placing.builder.text found.position line.stop r.rest
+    (sym (ap (λ (s : Source). s.text) by.stands.source)) (sym by.reaches.rest.left) shows) by.stands.remembers
+
+-- the same where no block is open
+pub text_untabled_outside : (s : Source) (pass : Pass) (line : Line) (before : Before) (source : SourceLine)
+    → Stands s pass before.frames before.inside before.last line.start → IsSource pass line source
+    → pass.placing.builder.blocks ≡ [] → (position : Position)
+    → source.left ≡ left_from pass.placing.builder.text position line.stop
+    → IsTextFrom pass.placing.builder.text position line.stop
+    → IfParagraphLast s (IsUntabled s pass line.start (reached_of s before source)) before.last
+text_untabled_outside s pass line before source stands is none position left shows =
+    let r = reached_of s before source in
+    last_untabled s pass line.start r before.last (ap (λ (l : SourceLine). l.indent) rest_is ∙ is.indent)
+    (no_row_left s pass.placing.builder.text position line.stop r.rest
+    (sym (ap (λ (s : Source). s.text) stands.source)) (ap (λ (l : SourceLine). l.left) rest_is ∙ left) shows)
+    stands.remembers
+  where
+    outer_none : (blocks leaf : List OpenBlock) → blocks ++ leaf ≡ [] → blocks ≡ []
+    outer_none [] leaf none = refl
+    outer_none (block ∷ blocks) leaf none = cc
+
+    rest_is : (reached_of s before source).rest ≡ source
+    rest_is =
+        let opened = before_line s pass line before.frames before.inside before.last source stands is in
+        none_left s before.frames (blocks_in before) source
+        (no_frames pass.placing.builder.texts opened.containers before.frames opened.are
+        (outer_none opened.containers opened.leaf (sym opened.blocks ∙ none)))

@@ -1,10 +1,9 @@
 -- What the pass stands for while the rest of a line is read: first what the open containers left of it, and then, as
 -- long as it opens containers, what is left inside them, where more may begin, or a leaf, or nothing.
-use Rattle.std.specs.Prelude.{◌≡◌, ◌==◌, ◌&&◌, ◌||◌, ℕ, ◌+◌, ◌<◌, ◌≤◌, Bool, true, false, List, [], Option, Some, None}
+use Rattle.std.specs.Prelude.{◌≡◌, ◌==◌, ◌&&◌, ℕ, ◌+◌, ◌<◌, ◌≤◌, Bool, true, false, List, [], Option, Some, None}
 use Rattle.std.specs.Prelude.{length, take, if◌then◌else◌}
 use Rattle.std.specs.Str.{IsCharBoundary, IsUtf8}
 use Rattle.markdown_base.specs.Syntax.{any_metadata}
-use Rattle.markdown_base.specs.declared.syntax.Syntax.{Syntax}
 use Rattle.markdown_base.specs.Forest.{Forest, nil}
 use Rattle.markdown_lines.specs.BlockBeginnings as line
 use Rattle.markdown_base.specs.Source.{Source}
@@ -34,7 +33,7 @@ use Rattle.markdown_plain.specs.Frames.{Frame, innermost_is, is_list, rebuilt}
 use Rattle.markdown_builder.specs.TreeLevels.{followed_by}
 use Rattle.markdown_plain.specs.OpenLeaves.{AreItemsOpenedIn, InfoStands, IsLineRest}
 use Rattle.markdown_plain.specs.OpenedFrames.{MayOpen}
-use Rattle.markdown_plain.specs.Paragraphs.{has_paragraph, lines_end, source_of}
+use Rattle.markdown_plain.specs.Paragraphs.{UnderlinesNothing, has_paragraph, lines_end, source_of}
 use Rattle.markdown_plain.specs.ReachedFrames.{are_none}
 use Rattle.markdown_plain.specs.ReachedLines.{Before, blocks_before, blocks_in, reached_of}
 use Rattle.markdown_plain.specs.Settled.{BlanksKnown, IsBuilt, IsLooseAs, IsLooseBefore, QuotesEnd, placed_end}
@@ -102,9 +101,7 @@ begun_in_rest s l = if is_blank_rest l then nil else begun_by s l
 -- the innermost of these open containers was opened in this line, and nothing is in it yet
 pub record IsOpened (s : Source) (pass : Pass) (line : Line) (frames : List Frame) : Type 0 where
   pub source : source_of pass ≡ s
-  pub free : MayOpen s pass frames nil
-  pub blanks : pass.blanks.items ≡ []
-  pub loose : IsLooseAs pass.looseness frames nil
+  pub free : MayOpen s pass frames
   pub quotes : QuotesEnd line.next frames
   pub items : AreItemsOpenedIn line frames
   pub first : placed_end 0 frames nil ≡ line.next
@@ -224,6 +221,23 @@ pub record ReadsOn (s : Source) (pass : Pass) (old new : LineRest) (blocks : For
 abbrev pub HasBegun : Source → Pass → (old new : LineRest) → Forest Block → (more : Bool) → Type 0
 HasBegun s pass old new blocks true = ReadsOn s pass old new blocks
 HasBegun s pass old new blocks false = PlacesFor s pass old.line.next blocks
+
+-- the rest of a line was read, whatever may have been read of it, and no cell was added to a table
+pub record Reads (old : Pass) (rest : LineRest) (new : Pass) (now : LineRest) (more : Bool) : Type 0 where
+  pub begun : (may : MayRead old rest) → HasBegun may.s new rest now may.blocks more
+  pub tables : new.tables ≡ old.tables
+
+-- the same of a rest with which this block was found to begin, at a byte offset
+pub record Begins (old : Pass) (rest : LineRest) (at : ℕ) (start : BlockStart) (new : Pass) (now : LineRest)
+    (more : Bool) : Type 0 where
+  pub begun : (may : MayBeginBlock old rest at start) → HasBegun may.s new rest now may.blocks more
+  pub tables : new.tables ≡ old.tables
+
+-- what was found is read as text: it is that, or underlines a paragraph of definitions alone
+abbrev pub IsReadAsText : Pass → Line → ℕ → BlockStart → Type 0
+IsReadAsText pass line at start.Text = Unit
+IsReadAsText pass line at (start.Underline level) = UnderlinesNothing pass line at true
+IsReadAsText pass line at other = ⊥
 
 -- ---- room for a block
 

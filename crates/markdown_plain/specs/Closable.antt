@@ -14,8 +14,10 @@ use Rattle.markdown_lines.specs.declared.held_line.HeldLine.{HeldLine}
 use Rattle.markdown_lines.specs.declared.line.Line.{Line}
 use Rattle.markdown_plain.specs.Containers.{is_container}
 use Rattle.markdown_plain.specs.Fits.{MayAddBefore, MayStep}
+use Rattle.markdown_plain.specs.Fitting.{IsAhead}
 use Rattle.markdown_plain.specs.HeldSources.{AreInParagraph}
 use Rattle.markdown_plain.specs.OpenBlocks.{has_leaf, innermost_is, is_list, is_quote, room_in, without_leaf}
+use Rattle.markdown_plain.specs.OpenBlocks.{without_list}
 use Rattle.markdown_plain.specs.Paragraphs.{has_paragraph, lines_end}
 use Rattle.markdown_plain.specs.declared.paragraph.Ends.{Ends}
 use Rattle.markdown_plain.specs.declared.pass.Pass.{Pass}
@@ -134,6 +136,14 @@ pub record IsInList (builder : BuilderView) (to : ℕ) : Type 0 where
   pub outside : builder.leaf ≡ false
   pub some : builder.blocks ≡ [] → ⊥
   pub low : builder.at ≤ to
+
+-- a list may be opened at a byte offset, or go on there
+pub record MayOpenList (pass : Pass) (at : ℕ) : Type 0 where
+  pub outside : pass.placing.builder.leaf ≡ false
+  pub ahead : IsAhead pass.placing.builder at
+  pub white : without_list pass.placing.builder.blocks ≡ [] → IsWhiteBefore pass.placing.builder at
+  pub closable : innermost_is is_list pass.placing.builder.blocks ≡ true
+      → AreClosable pass.placing.builder pass.placed
 
 -- the byte offset at which the open leaf ends, or the paragraph whose lines are held back
 abbrev pub leaf_end : Pass → ℕ

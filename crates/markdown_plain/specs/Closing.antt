@@ -9,7 +9,7 @@ use Rattle.markdown_block_rules.specs.BlockRules.{is_blank_block}
 use Rattle.markdown_plain.specs.declared.pass.Pass.{Pass}
 use Rattle.markdown_plain.specs.Frames.{Frame, is_item, is_list, rebuilt}
 use Rattle.markdown_plain.specs.OpenLeaves.{IsUnended, leaf_block}
-use Rattle.markdown_plain.specs.Settled.{IsAtEnd, IsBuilt, QuotesEnd, are_loose}
+use Rattle.markdown_plain.specs.Settled.{IsAtEnd, IsBuilt, IsLooseAs, QuotesEnd}
 
 -- a block of a kind may be directly in a list, or elsewhere
 abbrev pub MayBeIn : (in_list : Bool) → Kind → Type 0
@@ -30,7 +30,7 @@ pub record StandsFor (s : Source) (pass : Pass) (frames : List Frame) (inside : 
 -- it does, and knows of each open list whether that is loose
 pub record MayClose (s : Source) (pass : Pass) (frames : List Frame) (inside : Forest Block) : Type 0 where
   pub stands : StandsFor s pass frames inside
-  pub lists : pass.looseness.lists.items ≡ are_loose frames inside
+  pub loose : IsLooseAs pass.looseness frames inside
 
 -- the pass stands for such blocks with one after them that has not ended, and knows of each open list whether that is
 -- loose then
@@ -40,4 +40,4 @@ pub record MayEnd (s : Source) (pass : Pass) (frames : List Frame) (inside : For
   pub syntax : s.syntax ≡ pass.syntax
   pub quotes : QuotesEnd pass.placed frames
   pub items : AreItemsInLists false (rebuilt frames (followed_by inside (leaf_block b)))
-  pub lists : pass.looseness.lists.items ≡ are_loose frames (followed_by inside (leaf_block b))
+  pub loose : IsLooseAs pass.looseness frames (followed_by inside (leaf_block b))

@@ -18,13 +18,13 @@ after_line start next = max start next
 abbrev pub code_after : List ℕ → Position → Line → ℕ → LineLeft
 code_after text position line columns = (leading_space columns (left_from text position line.stop)).after
 
--- a line that is held back, with this rest
-abbrev pub held : Line → LineLeft → HeldLine
-held line left = record { start = left.scanned; stop = line.stop; next = line.next; owed = left.owed }
-
 -- a whole line
 abbrev pub whole_of : Line → HeldLine
 whole_of line = record { start = line.start; stop = line.stop; next = line.next; owed = 0 }
+
+-- the rest of a line from a place on
+abbrev pub rest_from : Line → Position → HeldLine
+rest_from line position = record { start = position.at; stop = line.stop; next = line.next; owed = position.owed }
 
 -- a fence that closes a code block follows less than four columns of space, from a place on
 abbrev pub is_closed_at : List ℕ → Position → Line → Fence → Bool

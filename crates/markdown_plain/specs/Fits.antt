@@ -29,6 +29,11 @@ pub record MayAddLine (builder : BuilderView) (from to : ℕ) : Type 0 where
   pub ahead : IsAhead builder from
   pub next : IsCharBoundary builder.text to
 
+-- a line from one byte offset up to another, not before it, fits into the open leaf, or ends it
+pub record MayEndWith (builder : BuilderView) (from to : ℕ) : Type 0 where
+  pub line : MayAddLine builder from to
+  pub ordered : from ≤ to
+
 -- lines are between characters and in order, from a byte offset on
 abbrev pub AreLinesFrom : List ℕ → ℕ → List HeldLine → Type 0
 AreLinesFrom text from [] = Unit

@@ -4,6 +4,7 @@ pub mod CodeLines
 pub mod HeldSources
 pub mod Fitting
 pub mod Fits
+pub mod LeafGrowth
 pub mod LeafTrees
 pub mod TableRows
 -- what the pass keeps between lines
@@ -15,6 +16,7 @@ pub mod Containers
 pub mod NewContainers
 pub mod ParagraphItems
 pub mod Closable
+pub mod ParagraphSteps
 -- the blocks that it stands for
 pub mod Frames
 pub mod Readable
@@ -27,5 +29,6 @@ pub mod Standing
 pub mod ReachedLines
 pub mod TextLines
 pub mod Beginning
-pub mod Turns
+pub mod PassSteps
 pub mod TableHeads
+pub mod ReachedTables

@@ -9,7 +9,7 @@ use Rattle.markdown_block_rules.specs.BlockGrowth as was
 use Rattle.markdown_block_rules.specs.BlockGrowth.{Block, Kind}
 use Rattle.markdown_block_rules.specs.BlockRules.{Around}
 use Rattle.markdown_plain.specs.Frames.{Frame, innermost_is, is_list, rebuilt, room_depth}
-use Rattle.markdown_plain.specs.Settled.{IsBuilt, around_in}
+use Rattle.markdown_plain.specs.Settled.{IsBuilt, IsLooseAs, around_in}
 use Rattle.markdown_plain.specs.declared.pass.Pass.{Pass}
 
 -- what is around the blocks in the innermost of some open containers
@@ -43,9 +43,10 @@ with_item marker list item frames inside =
     if innermost_is (is_list_for marker) frames then with_frame frames inside item
     else with_frame (with_list list frames inside) nil item
 
--- The pass stands for the blocks in some open containers, and another container may begin in the innermost of them
--- before any of them is closed.
-pub record MayOpen (s : Source) (pass : Pass) (frames : List Frame) (inside : Forest Block) : Type 0 where
-  pub built : IsBuilt s pass.placing.builder frames inside
+-- nothing but these containers is open, the innermost of which is empty and no list, so that a block may begin in it
+pub record MayOpen (s : Source) (pass : Pass) (frames : List Frame) : Type 0 where
+  pub built : IsBuilt s pass.placing.builder frames nil
+  pub loose : IsLooseAs pass.looseness frames nil
   pub lines : pass.lines.items ≡ []
+  pub blanks : pass.blanks.items ≡ []
   pub free : innermost_is is_list frames ≡ false

@@ -3,7 +3,7 @@ use Rattle.std.specs.Prelude.{◌≡◌, ◌+◌, ◌-◌, ◌<◌, Bool, ◌==�
 use Rattle.std.specs.Prelude.{if◌then◌else◌}
 use Rattle.markdown_base.specs.declared.item.ItemBody.TheVariants as body
 use Rattle.markdown_base.specs.Forest.{Forest}
-use Rattle.markdown_builder.specs.BuilderView.{with_items}
+use Rattle.markdown_builder.specs.BuilderView.{BuilderView, with_items}
 use Rattle.markdown_builder.specs.Shown.{Shown, plain_item}
 use Rattle.markdown_base.specs.declared.syntax.Syntax.{Syntax}
 use Rattle.markdown_base.specs.declared.tag.HeadingLevel.{HeadingLevel}
@@ -65,10 +65,12 @@ pub record HaveEnds (lines : List SourceLine) (ends : Ends) : Type 0 where
   pub task : BeginWithTask ends.task lines
   pub braces : OpenInLast ends.braces lines
 
--- what is left of some lines, with what is at their ends, makes of these levels those
-pub record IsLeft (s : Source) (ends : Ends) (lines : List SourceLine) (now all : List (Forest Shown)) : Type 0 where
+-- what is left of some lines, with what is at their ends, makes of the levels of a builder these
+pub record IsLeft (s : Source) (ends : Ends) (lines : List SourceLine) (now : BuilderView) (all : List (Forest Shown))
+    : Type 0 where
   pub fit : HaveEnds lines ends
-  pub rest : with_items now (text_items s ends.task (before_braces ends.braces lines)) ≡ all
+  pub over : (lines ≡ [] → ⊥) → now.run ≡ None
+  pub rest : with_items now.levels (text_items s ends.task (before_braces ends.braces lines)) ≡ all
 
 -- the braces at the end of the lines of a heading, or of a paragraph, which has none
 abbrev pub heading_braces : Syntax → Option (HeadingLevel × Line) → List SourceLine → Option Braces

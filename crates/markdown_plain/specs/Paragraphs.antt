@@ -31,6 +31,11 @@ end_of lines count = option_map_or (λ line. line.next) (slice_get lines (count 
 abbrev pub lines_end : List HeldLine → ℕ
 lines_end lines = end_of lines (length lines)
 
+-- the byte offset after the last of some lines, or the one before them where there are none
+abbrev pub past : ℕ → List HeldLine → ℕ
+past from [] = from
+past from (line ∷ lines) = past line.next lines
+
 -- the byte offset after a paragraph, or after the underline of the heading that it is
 abbrev pub paragraph_end : List HeldLine → Option (HeadingLevel × Line) → ℕ
 paragraph_end lines None = lines_end lines
@@ -62,6 +67,10 @@ abbrev pub task_at : Pass → Line → (start : ℕ) → Option Bool
 task_at pass line start =
     if option_map_or (λ block. is_item_in block line) (innermost_block pass.placing.builder.blocks) false
     then task_read pass.syntax (slice_range pass.placing.builder.text start line.stop) else None
+
+-- the task marker before the lines from a number on: only the first of all lines may begin with one
+abbrev pub task_left : Pass → (from : ℕ) → Option Bool
+task_left pass from = if from == 0 then pass.task else None
 
 -- the text that the pass reads, with its syntax
 abbrev pub source_of : Pass → Source

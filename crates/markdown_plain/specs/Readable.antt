@@ -1,15 +1,31 @@
 -- What the pass has to stand for so that a text, a line or the rest of one can be read: every call that places it then
--- fits.
-use Rattle.std.specs.Prelude.{◌≡◌, ℕ, Bool, List, [], None}
-use Rattle.markdown_base.specs.Forest.{nil}
+-- fits. And what it stands for once that was read.
+use Rattle.std.specs.Prelude.{◌≡◌, ℕ, Bool, List, [], None, false, length, max}
+use Rattle.markdown_builder.specs.BuilderView.{nothing_made}
+use Rattle.markdown_base.specs.Forest.{Forest, nil}
 use Rattle.markdown_base.specs.Source.{Source}
 use Rattle.markdown_lines.specs.SourceLines.{SourceLine, is_blank_rest}
 use Rattle.markdown_lines.specs.declared.line.Line.{Line}
 use Rattle.markdown_plain.specs.declared.containers.Reached.{Reached}
 use Rattle.markdown_plain.specs.declared.pass.Pass.{Pass}
-use Rattle.markdown_plain.specs.ReachedLines.{Before, IsReachedBy, LeavesOff, blocks_before, reached_of}
-use Rattle.markdown_plain.specs.Standing.{IsSource, Stands}
+use Rattle.markdown_block_rules.specs.BlockGrowth.{Block, with_line, with_next_line}
+use Rattle.markdown_plain.specs.ReachedLines.{Before, GoesOffAs, IsReachedBy, LeavesOff, blocks_before, blocks_in}
+use Rattle.markdown_plain.specs.ReachedLines.{reached_of}
+use Rattle.markdown_plain.specs.Standing.{IsSource, PlacesFor, Stands, StandsFor}
+use Rattle.markdown_plain.specs.TableHeads.{IfParagraphLast, IsUntabled}
+use Rattle.markdown_plain.specs.TextLines.{IsTextHere}
 use Rattle.markdown_plain.specs.TableRows.{IsCounted}
+
+-- nothing of a text is read yet
+pub record HasNothing (s : Source) (pass : Pass) : Type 0 where
+  pub made : pass.placing.builder ≡ nothing_made s.text
+  pub syntax : pass.syntax ≡ s.syntax
+  pub lines : pass.lines.items ≡ []
+  pub blanks : pass.blanks.items ≡ []
+  pub lists : pass.looseness.lists.items ≡ []
+  pub placed : pass.placed ≡ 0
+  pub added : pass.tables.added ≡ 0
+  pub most : pass.tables.most ≡ max (length s.text) 1000
 
 -- the pass stands for the blocks before the first line, which are none
 pub record MayReadText (pass : Pass) : Type 0 where
@@ -34,6 +50,7 @@ pub record MayReadOn (text : List ℕ) (pass : Pass) (line : Line) (reached : Re
   pub source : SourceLine
   pub same : text ≡ s.text
   pub by : IsReachedBy s pass line reached before source
+  pub counted : IsCounted s pass (blocks_before before)
 
 -- all of them do, so that the last block may go on in the line
 pub record MayGoOn (text : List ℕ) (pass : Pass) (line : Line) (reached : Reached) : Type 0 where
@@ -53,3 +70,76 @@ pub record MayReadRest (text : List ℕ) (pass : Pass) (line : Line) (reached : 
   pub by : IsReachedBy s pass line reached before source
   pub left : is_blank_rest (reached_of s before source).rest ≡ blank
   pub off : (reached_of s before source).inner ≡ [] → LeavesOff s (reached_of s before source).rest before.last
+
+-- the line is text, from a byte offset on, inside the outermost of this number of open blocks
+pub record MayReadAsText (pass : Pass) (line : Line) (start depth : ℕ) : Type 0 where
+  pub s : Source
+  pub before : Before
+  pub source : SourceLine
+  pub stands : Stands s pass before.frames before.inside before.last line.start
+  pub is : IsSource pass line source
+  pub here : IsTextHere s pass line start depth (blocks_in before) (reached_of s before source)
+  pub untabled : IfParagraphLast s (IsUntabled s pass line.start (reached_of s before source)) before.last
+
+-- ---- what becomes of it
+
+-- the pass stands for these blocks between two lines, and for their cells
+pub record StandsCounted (s : Source) (pass : Pass) (from : ℕ) (blocks : Forest Block) : Type 0 where
+  pub stands : StandsFor s pass from blocks
+  pub counted : IsCounted s pass blocks
+
+-- so it does for the blocks that the line makes
+abbrev pub ReadsLine : List ℕ → Pass → Line → Pass → Type 0
+ReadsLine text old line new =
+    (may : MayReadLine text old line)
+    → StandsCounted may.s new line.next (with_next_line may.s (blocks_before may.before) may.source)
+
+-- the last block goes on in the line, which was placed
+pub record LastGoesOn (text : List ℕ) (old : Pass) (line : Line) (reached : Reached) (new : Pass) : Type 0 where
+  pub places : (may : MayReadOn text old line reached)
+      → PlacesFor may.s new line.next (with_next_line may.s (blocks_before may.before) may.source)
+  pub counted : (may : MayReadOn text old line reached)
+      → IsCounted may.s new (with_next_line may.s (blocks_before may.before) may.source)
+
+-- it does not, and the pass is as it was
+pub record LastGoesOff (text : List ℕ) (old : Pass) (line : Line) (reached : Reached) (new : Pass) : Type 0 where
+  pub same : new ≡ old
+  pub off : (may : MayReadOn text old line reached) → GoesOffAs may.s old line reached may.before may.source
+
+-- the open leaf goes on in the line, which was placed, and no cell was added to a table
+pub record LeafGoesOn (old : Pass) (line : Line) (reached : Reached) (new : Pass) : Type 0 where
+  pub places : (may : MayGoOn old.placing.builder.text old line reached)
+      → PlacesFor may.s new line.next (with_line may.s (blocks_before may.before) may.source)
+  pub tables : new.tables ≡ old.tables
+
+-- it does not, and the pass is as it was
+pub record LeafLeavesOff (old : Pass) (line : Line) (reached : Reached) (new : Pass) : Type 0 where
+  pub same : new ≡ old
+  pub off : (may : MayGoOn old.placing.builder.text old line reached)
+      → LeavesOff may.s (reached_of may.s may.before may.source).rest may.before.last
+
+-- the line is the delimiter row of a table, which was begun
+pub record IsDelimiterRow (old : Pass) (line : Line) (reached : Reached) (new : Pass) : Type 0 where
+  pub places : (may : MayReadRest old.placing.builder.text old line reached false)
+      → PlacesFor may.s new line.next (with_line may.s (blocks_before may.before) may.source)
+  pub tables : new.tables ≡ old.tables
+
+-- it is none, which is remembered
+pub record IsNoDelimiterRow (old : Pass) (line : Line) (reached : Reached) (new : Pass) : Type 0 where
+  pub same : new ≡ record old { tried = new.tried }
+  pub untabled : (may : MayReadRest old.placing.builder.text old line reached false)
+      → IfParagraphLast may.s (IsUntabled may.s new line.start (reached_of may.s may.before may.source))
+      may.before.last
+
+-- the rest of the line was read, and no cell was added to a table
+pub record ReadsRest (text : List ℕ) (old : Pass) (line : Line) (reached : Reached) (blank : Bool) (new : Pass)
+    : Type 0 where
+  pub stands : (may : MayReadRest text old line reached blank)
+      → StandsFor may.s new line.next (with_line may.s (blocks_before may.before) may.source)
+  pub tables : new.tables ≡ old.tables
+
+-- the same of a line of text
+pub record ReadsAsText (old : Pass) (line : Line) (start depth : ℕ) (new : Pass) : Type 0 where
+  pub stands : (may : MayReadAsText old line start depth)
+      → StandsFor may.s new line.next (with_line may.s (blocks_before may.before) may.source)
+  pub tables : new.tables ≡ old.tables

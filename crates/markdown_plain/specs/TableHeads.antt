@@ -1,9 +1,9 @@
 -- Which line of the open paragraph is the head of a table, as the pass finds it out.
-use Rattle.std.specs.Prelude.{◌≡◌, ℕ, ◌-◌, ◌<◌, ◌++◌, ◌∷◌, [], true, false, List, Option, Some, None, length}
+use Rattle.std.specs.Prelude.{◌≡◌, ℕ, ◌-◌, ◌<◌, ◌≤◌, ◌++◌, ◌∷◌, [], true, false, List, Option, Some, None, length}
 use Rattle.std.specs.Prelude.{slice_get, if◌then◌else◌}
+use Rattle.std.specs.Str.{IsCharBoundary}
 use Rattle.markdown_base.specs.Forest.{Forest}
 use Rattle.markdown_base.specs.declared.tag.Alignment.{Alignment}
-use Rattle.markdown_builder.specs.BuilderView.{BuilderView}
 use Rattle.markdown_builder.specs.TreeLevels.{followed_by}
 use Rattle.markdown_scan.specs.LineStart.{leading_space}
 use Rattle.markdown_base.specs.Source.{Source}
@@ -17,7 +17,8 @@ use Rattle.markdown_block_rules.specs.TableLines.{alignments_for, further_line, 
 use Rattle.markdown_plain.specs.declared.pass.Pass.{Pass}
 use Rattle.markdown_plain.specs.Frames.{Frame, Reached, reached}
 use Rattle.markdown_plain.specs.HeldSources.{IsParagraph, IsRest}
-use Rattle.markdown_plain.specs.OpenLeaves.{IsOpenIn}
+use Rattle.markdown_plain.specs.OpenLeaves.{HoldsParagraph, IsOpenIn}
+use Rattle.markdown_plain.specs.Closable.{AreAhead, HaveTask}
 use Rattle.markdown_plain.specs.Paragraphs.{end_of, lines_end, source_of}
 use Rattle.markdown_plain.specs.ReachedFrames.{IsBefore, are_none}
 
@@ -109,10 +110,43 @@ begun_table head last alignments = record {
 abbrev pub before_table : Forest Block → Block → List SourceLine → Forest Block
 before_table inside b before = followed_by inside (cut_paragraph b (last_next b.first before) before)
 
--- such a table is open in the innermost container, where a line begins it as its delimiter row, after the head and the
--- lines of a paragraph before that
-pub record HasTable (s : Source) (view : BuilderView) (frames : List Frame) (inside : Forest Block) (b : Block)
-    (before : List SourceLine) (from l : SourceLine) (to : ℕ) : Type 0 where
+-- The last line of the open paragraph became the head of a table with these alignments, which ends at a byte offset so
+-- far; the lines before it have ended.
+pub record TurnsToTable (old new : Pass) (to : ℕ) (found : List Alignment) : Type 0 where
+  pub same : new ≡ record old { placing = new.placing; lines = new.lines; tried = new.tried }
+  pub text : new.placing.builder.text ≡ old.placing.builder.text
+  pub ended : new.lines.items ≡ []
+  pub here : new.placing.builder.at ≡ to
+  pub some : new.placing.builder.blocks ≡ [] → ⊥
+  pub opened : (s : Source) (frames : List Frame) (inside : Forest Block) (b : Block) (before : List SourceLine)
+      (from : SourceLine) → source_of old ≡ s → HoldsParagraph s old frames inside b (before ++ from ∷ [])
+      → IsOpenIn s new.placing.builder frames (before_table inside b before) false (begun_table from to found)
+
+-- a table may begin with the last line of the open paragraph, up to the end of a line
+pub record MayBeginTable (pass : Pass) (line : Line) : Type 0 where
+  pub outside : pass.placing.builder.leaf ≡ false
+  pub ahead : AreAhead pass.placing.builder pass.lines.items
+  pub task : HaveTask pass.placing.builder.text pass.task pass.lines.items
+  pub before : lines_end pass.lines.items ≤ line.next
+  pub next : IsCharBoundary pass.placing.builder.text line.next
+
+-- a line follows the open paragraph, whose last line comes after these
+pub record FollowsLast (s : Source) (pass : Pass) (line : Line) (position : Position) (before : List SourceLine)
+    (from l : SourceLine) : Type 0 where
+  pub head : HeldLine
+  pub last : IsLastLine s pass head before from
+  pub rest : IsRowRest s pass.placing.builder.text line position l
+
+-- such a line begins a table, as the delimiter row for the last line
+pub record BeginsTable (old new : Pass) (line : Line) (position : Position) : Type 0 where
   pub found : List Alignment
-  pub begins : alignments_for s l before from ≡ Some found
-  pub opened : IsOpenIn s view frames (before_table inside b before) false (begun_table from to found)
+  pub fits : (s : Source) (before : List SourceLine) (from l : SourceLine)
+      → FollowsLast s old line position before from l → alignments_for s l before from ≡ Some found
+  pub table : TurnsToTable old new line.next found
+
+-- it begins none, and so much is remembered of the paragraph as if it had this line
+pub record BeginsNoTable (old new : Pass) (line : Line) (position : Position) : Type 0 where
+  pub same : new ≡ record old { tried = new.tried }
+  pub fits : (s : Source) (before : List SourceLine) (from l : SourceLine)
+      → FollowsLast s old line position before from l → (alignments_for s l before from ≡ None)
+      × (new.tried ≡ hold_fitting s (before ++ from ∷ further_line s l ∷ []))

@@ -1,9 +1,10 @@
 -- The rows of tables, as the pass places them: one tree of the innermost level for each cell.
-use Rattle.std.specs.Prelude.{◌≡◌, ℕ, ◌+◌, ◌-◌, ◌≤◌, Bool, true, false, ◌&&◌, nat_le, nat_lt, List, [], ◌∷◌, ◌++◌}
-use Rattle.std.specs.Prelude.{length}
+use Rattle.std.specs.Prelude.{◌≡◌, ℕ, ◌+◌, ◌-◌, ◌≤◌, Bool, true, false, ◌&&◌, nat_le, nat_lt, List, [], None, length}
 use Rattle.std.specs.Prelude.{◌||◌, if◌then◌else◌, not, slice_range, take}
 use Rattle.std.specs.Str.{IsCharBoundary}
-use Rattle.markdown_base.specs.Forest.{Forest, nil, node, roots}
+use Rattle.markdown_base.specs.Forest.{Forest, nil, node}
+use Rattle.markdown_base.specs.declared.item.ItemBody.{ItemBody}
+use Rattle.markdown_base.specs.declared.item.ItemBody.TheVariants as body
 use Rattle.markdown_builder.specs.BuilderView.{BuilderView}
 use Rattle.markdown_builder.specs.EvenRows.{open_columns}
 use Rattle.markdown_builder.specs.Shown.{Shown}
@@ -11,21 +12,26 @@ use Rattle.markdown_builder.specs.TreeLevels.{followed_by}
 use Rattle.markdown_lines.specs.declared.block_start.BlockStart.{BlockStart}
 use Rattle.markdown_lines.specs.declared.block_start.BlockStart.TheVariants as start
 use Rattle.markdown_lines.specs.declared.held_line.HeldLine.{HeldLine}
+use Rattle.markdown_lines.specs.declared.line.Line.{Line}
 use Rattle.markdown_lines.specs.declared.table_row.Cell.{Cell}
 use Rattle.markdown_base.specs.Source.{Source}
 use Rattle.markdown_lines.specs.TableRows.{piece_length, row_cells_at}
 use Rattle.markdown_block_rules.specs.BlockGrowth as was
 use Rattle.markdown_block_rules.specs.BlockGrowth.{Block, Kind, added_in, is_nil}
-use Rattle.markdown_block_rules.specs.BlockRules.{empty_cells, shown_cells}
+use Rattle.markdown_block_rules.specs.BlockRules.{empty_cells, shown_cells, shown_over}
 use Rattle.markdown_block_rules.specs.TableLines.{most_added, reads_tables}
 use Rattle.markdown_plain.specs.Closable.{IsInText}
 use Rattle.markdown_plain.specs.Fits.{MayStep}
-use Rattle.markdown_plain.specs.LeafTrees.{HasTrees}
+use Rattle.markdown_plain.specs.LeafTrees.{HasMoreTexts, HasTrees}
+use Rattle.markdown_plain.specs.Paragraphs.{IsPlacedTo, source_of}
+use Rattle.markdown_plain.specs.TextLines.{held_line}
 use Rattle.markdown_plain.specs.declared.pass.Pass.{Pass}
 
--- one tree was put at the end of the innermost level
-abbrev pub PutsTree : BuilderView → BuilderView → Type 0
-PutsTree old new = (a : Shown) × (below : Forest Shown) × HasTrees old new (node a below nil)
+-- blocks with these trees were opened, filled and closed, up to a byte offset
+pub record PutsTrees (old new : BuilderView) (to : ℕ) (put : Forest Shown) : Type 0 where
+  pub placed : IsPlacedTo old new to
+  pub texts : HasMoreTexts old new
+  pub trees : HasTrees old new put
 
 -- a cell's content lies in the cell, and where either begins and ends is between characters
 pub record IsCellIn (text : List ℕ) (cell : Cell) : Type 0 where
@@ -59,10 +65,12 @@ abbrev pub cells_placed : Source → List Cell → (found count at : ℕ) → Fo
 cells_placed s cells found count at =
     followed_by (shown_cells s (take found cells)) (empty_cells (count - found) at)
 
--- a level inside these levels has this number of trees
-abbrev pub HasCells : List (Forest Shown) → ℕ → List (Forest Shown) → Type 0
-HasCells outer count levels =
-    (cells : Forest Shown) × (levels ≡ outer ++ cells ∷ []) × (length (roots cells) ≡ count)
+-- a line of the text as a row of a table of this many columns
+abbrev pub line_row : Source → (columns : ℕ) → ItemBody → HeldLine → Forest Shown
+line_row s columns row line =
+    let cells = row_cells_at s.text line.start line.stop in
+    shown_over line.start line.next row None
+    (followed_by (shown_cells s (take columns cells)) (empty_cells (columns - length cells) line.next))
 
 -- what a line begins is text
 abbrev pub is_text_start : BlockStart → Bool
@@ -95,3 +103,12 @@ may_be_row pass start stop =
     let count = length (row_cells_at pass.placing.builder.text start stop) in
     nat_lt 0 count
     && nat_le (pass.tables.added + (open_columns pass.placing.builder - count)) pass.tables.most
+
+-- a line is added to the open table as a row, from byte offset `start` on, with the cells that it lacks
+pub record AddsRow (old new : Pass) (line : Line) (start : ℕ) : Type 0 where
+  pub same : new ≡ record old { placing = new.placing; tables = new.tables }
+  pub counts : new.tables.added ≡ old.tables.added + (open_columns old.placing.builder
+      - length (row_cells_at old.placing.builder.text start line.stop))
+  pub most : new.tables.most ≡ old.tables.most
+  pub puts : PutsTrees old.placing.builder new.placing.builder line.next
+      (line_row (source_of old) (open_columns old.placing.builder) body.TableRow (held_line line start))

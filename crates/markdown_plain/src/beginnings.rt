@@ -1,28 +1,16 @@
 //! What begins in a line: the rest of a line, which block its first bytes begin, and how each of these is opened, until
 //! the line is placed or the rest of it is inside a new container. `block_pass` goes on with that, turn by turn.
 //! Functions that return a `Result` fail only if an allocation fails.
-ghost use Rattle.std.specs.Prelude.{◌≡◌, ℕ, true, false, Some, None, IfOk, length};
-ghost use Rattle.std.specs.Str.{IsCharBoundary};
-ghost use Rattle.markdown_base.specs.Forest.{Forest};
-ghost use Rattle.markdown_base.specs.declared.tag.HeadingLevel.{HeadingLevel};
-ghost use Rattle.markdown_block_rules.specs.BlockGrowth.{Block};
-ghost use Rattle.markdown_base.specs.Source.{Source};
+ghost use Rattle.std.specs.Prelude.{◌≡◌, ℕ, true, Some, IfOk, length};
 ghost use Rattle.markdown_lines.specs.BlockBeginnings.{Beginning};
 ghost use Rattle.markdown_lines.specs.BlockStarts.{beginning_found};
-ghost use Rattle.markdown_lines.specs.HeldLines.{IsHeldLine};
-ghost use Rattle.markdown_lines.specs.SourceLines.{SourceLine};
 ghost use Rattle.markdown_lines.specs.declared.block_start.Before.TheVariants as before;
 ghost use Rattle.markdown_lines.specs.declared.block_start.BlockStart.{BlockStart};
 ghost use Rattle.markdown_lines.specs.declared.block_start.BlockStart.TheVariants as start;
-ghost use Rattle.markdown_plain.specs.Beginning.{HasBegun, HasRoom, IsFound, IsHere, NeedsRoom};
-ghost use Rattle.markdown_plain.specs.Beginning.{ReadsOn, Turn};
-ghost use Rattle.markdown_plain.specs.Beginning.{MayBeginBlock, MayRead};
+ghost use Rattle.markdown_plain.specs.Beginning.{Begins, HasRoom, IsReadAsText, MayBeginBlock, MayRead};
+ghost use Rattle.markdown_plain.specs.Beginning.{NeedsRoom, Reads};
 ghost use Rattle.markdown_plain.specs.Closable.{MayMakeRoom};
 ghost use Rattle.markdown_plain.specs.Fits.{MayStep};
-ghost use Rattle.markdown_plain.specs.Fitting.{BracesStand};
-ghost use Rattle.markdown_plain.specs.OpenLeaves.{InfoStands};
-ghost use Rattle.markdown_plain.specs.Paragraphs.{UnderlinesNothing};
-ghost use Rattle.markdown_plain.specs.Standing.{PlacesFor};
 ghost use Rattle.markdown_plain.specs.TextLines.{paragraph_before};
 ghost use Rattle.markdown_plain.specs.declared.beginnings.LineRest.{LineRest};
 
@@ -69,12 +57,7 @@ impl<'a> Pass<'a> {
     /// or once more.
     pub fn read_block(&mut self, rest: &mut LineRest<'a>) -> Result<bool, AllocError>
         requires { MayRead self.old rest.old }
-        ensures text { IfOk result (λ _. self.new.placing.builder.text
-            ≡ self.old.placing.builder.text) }
-        ensures tables { IfOk result (λ _. self.new.tables ≡ self.old.tables) }
-        ensures begins { IfOk result (λ more. (s : Source) (turn : Turn) (source : SourceLine)
-            (blocks : Forest Block) → IsHere s self.old rest.old turn source blocks
-            → HasBegun s self.new rest.old rest.new blocks more) }
+        ensures { IfOk result (λ more. Reads self.old rest.old self.new rest.new more) }
     {
         let begun = rest.reader.beginning(rest.position, rest.before)?;
         let at = begun.at;
@@ -99,21 +82,17 @@ impl<'a> Pass<'a> {
     /// containers that it is not in.
     #[inline(always)]
     fn make_room_for(&mut self, rest: &LineRest<'a>) -> Result<(), AllocError>
-        requires { MayMakeRoom self.old rest.now.depth }
-        ensures text { IfOk result (λ _. self.new.placing.builder.text
-            ≡ self.old.placing.builder.text) }
-        ensures tables { IfOk result (λ _. self.new.tables ≡ self.old.tables) }
-        ensures room { IfOk result (λ _. (s : Source) (turn : Turn) (source : SourceLine)
-            (at : ℕ) (start : BlockStart) (b : Beginning) (blocks : Forest Block)
-            → IsHere s self.old rest.now turn source blocks → IsFound s rest.now source at start
+        requires { (at : ℕ) × (start : BlockStart) × MayBeginBlock self.old rest.now at start }
+        ensures room { IfOk result (λ _. (at : ℕ) (start : BlockStart) (b : Beginning)
+            (may : MayBeginBlock self.old rest.now at start)
             → beginning_found rest.now.reader start ≡ Some b → NeedsRoom b
-            → HasRoom s self.new rest.now source b blocks) }
-        ensures same { self.new ≡ record self.old {
+            → HasRoom may.s self.new rest.now may.source b may.blocks) }
+        ensures same { IfOk result (λ _. self.new ≡ record self.old {
           placing = self.new.placing;
           lines = self.new.lines;
           blanks = self.new.blanks;
           looseness = self.new.looseness;
-        } }
+        }) }
     {
         self.make_room(rest.depth)
     }
@@ -136,14 +115,8 @@ impl<'a> Pass<'a> {
     /// Passes over the rest of a line that is blank. Returns false, as for all blocks that are not containers.
     fn skip_blank(&mut self, line: Line) -> Result<bool, AllocError>
         requires { MayStep self.old.placing.builder line.next }
-        ensures text { IfOk result (λ _. self.new.placing.builder.text
-            ≡ self.old.placing.builder.text) }
-        ensures tables { IfOk result (λ _. self.new.tables ≡ self.old.tables) }
-        ensures more { IfOk result (λ more. more ≡ false) }
-        ensures places { IfOk result (λ _. (s : Source) (rest : LineRest) (turn : Turn)
-            (source : SourceLine) (at : ℕ) (blocks : Forest Block)
-            → IsHere s self.old rest turn source blocks → rest.line ≡ line
-            → IsFound s rest source at start.Nothing → PlacesFor s self.new line.next blocks) }
+        ensures { IfOk result (λ more. (rest : LineRest) (at : ℕ) → rest.line ≡ line
+            → Begins self.old rest at start.Nothing self.new rest more) }
     {
         self.placing.step_to(line.next);
         Ok(false)
@@ -154,26 +127,9 @@ impl<'a> Pass<'a> {
     #[inline(always)]
     fn read_text(&mut self, rest: &LineRest<'a>, at: usize) -> Result<bool, AllocError>
         requires { MayMakeRoom self.old rest.now.depth }
-        ensures text { IfOk result (λ _. self.new.placing.builder.text
-            ≡ self.old.placing.builder.text) }
-        ensures tables { IfOk result (λ _. self.new.tables ≡ self.old.tables) }
-        ensures more { IfOk result (λ more. more ≡ false) }
-        ensures places { IfOk result (λ _. (s : Source) (turn : Turn) (source : SourceLine)
-            (blocks : Forest Block) → IsHere s self.old rest.now turn source blocks
-            → IsFound s rest.now source at start.Text
-            → IsHeldLine self.old.placing.builder.text (record {
-              start = at;
-              stop = rest.now.line.stop;
-              next = rest.now.line.next;
-              owed = 0;
-            })
-            → PlacesFor s self.new rest.now.line.next blocks) }
-        ensures further { IfOk result (λ _. (s : Source) (turn : Turn) (source : SourceLine)
-            (level : HeadingLevel) (blocks : Forest Block)
-            → IsHere s self.old rest.now turn source blocks
-            → IsFound s rest.now source at (start.Underline level)
-            → UnderlinesNothing self.old rest.now.line at true
-            → PlacesFor s self.new rest.now.line.next blocks) }
+        ensures { IfOk result (λ more. (start : BlockStart)
+            → IsReadAsText self.old rest.now.line at start
+            → Begins self.old rest.now at start self.new rest.now more) }
     {
         self.add_text(rest.line, at, rest.depth)?;
         Ok(false)
@@ -182,14 +138,8 @@ impl<'a> Pass<'a> {
     /// Reads the first line of indented code, from a place on. Returns false.
     fn read_indented(&mut self, rest: &LineRest<'a>, code: Position) -> Result<bool, AllocError>
         requires { (at : ℕ) × MayBeginBlock self.old rest.now at (start.IndentedCode code) }
-        ensures text { IfOk result (λ _. self.new.placing.builder.text
-            ≡ self.old.placing.builder.text) }
-        ensures tables { IfOk result (λ _. self.new.tables ≡ self.old.tables) }
-        ensures more { IfOk result (λ more. more ≡ false) }
-        ensures places { IfOk result (λ _. (s : Source) (turn : Turn) (source : SourceLine)
-            (at : ℕ) (blocks : Forest Block) → IsHere s self.old rest.now turn source blocks
-            → IsFound s rest.now source at (start.IndentedCode code)
-            → PlacesFor s self.new rest.now.line.next blocks) }
+        ensures { IfOk result (λ more. (at : ℕ)
+            → Begins self.old rest.now at (start.IndentedCode code) self.new rest.now more) }
     {
         self.make_room_for(rest)?;
         self.open_indented(rest.line, code)?;
@@ -204,15 +154,8 @@ impl<'a> Pass<'a> {
         inside: Position,
     ) -> Result<bool, AllocError>
         requires { MayBeginBlock self.old rest.old at (start.Quote inside) }
-        ensures text { IfOk result (λ _. self.new.placing.builder.text
-            ≡ self.old.placing.builder.text) }
-        ensures tables { IfOk result (λ _. self.new.tables ≡ self.old.tables) }
-        ensures more { IfOk result (λ more. more ≡ true) }
-        ensures reads_on { IfOk result (λ _. (s : Source) (turn : Turn) (source : SourceLine)
-            (blocks : Forest Block) → IsHere s self.old rest.old turn source blocks
-            → IsFound s rest.old source at (start.Quote inside)
-            → IsCharBoundary self.old.placing.builder.text inside.at
-            → ReadsOn s self.new rest.old rest.new blocks) }
+        ensures { IfOk result (λ more. Begins self.old rest.old at (start.Quote inside)
+            self.new rest.new more) }
     {
         self.make_room_for(rest)?;
         self.open_quote(at, None)?;
@@ -228,14 +171,8 @@ impl<'a> Pass<'a> {
         kind: BlockQuoteKind,
     ) -> Result<bool, AllocError>
         requires { MayBeginBlock self.old rest.now at (start.Alert kind) }
-        ensures text { IfOk result (λ _. self.new.placing.builder.text
-            ≡ self.old.placing.builder.text) }
-        ensures tables { IfOk result (λ _. self.new.tables ≡ self.old.tables) }
-        ensures more { IfOk result (λ more. more ≡ false) }
-        ensures places { IfOk result (λ _. (s : Source) (turn : Turn) (source : SourceLine)
-            (blocks : Forest Block) → IsHere s self.old rest.now turn source blocks
-            → IsFound s rest.now source at (start.Alert kind)
-            → PlacesFor s self.new rest.now.line.next blocks) }
+        ensures { IfOk result (λ more. Begins self.old rest.now at (start.Alert kind)
+            self.new rest.now more) }
     {
         self.make_room_for(rest)?;
         self.open_quote(at, Some(kind))?;
@@ -251,15 +188,8 @@ impl<'a> Pass<'a> {
         heading: AtxHeading,
     ) -> Result<bool, AllocError>
         requires { MayBeginBlock self.old rest.now at (start.Heading heading) }
-        ensures text { IfOk result (λ _. self.new.placing.builder.text
-            ≡ self.old.placing.builder.text) }
-        ensures tables { IfOk result (λ _. self.new.tables ≡ self.old.tables) }
-        ensures more { IfOk result (λ more. more ≡ false) }
-        ensures places { IfOk result (λ _. (s : Source) (turn : Turn) (source : SourceLine)
-            (blocks : Forest Block) → IsHere s self.old rest.now turn source blocks
-            → IsFound s rest.now source at (start.Heading heading)
-            → BracesStand self.old.placing.builder.text heading.braces
-            → PlacesFor s self.new rest.now.line.next blocks) }
+        ensures { IfOk result (λ more. Begins self.old rest.now at (start.Heading heading)
+            self.new rest.now more) }
     {
         self.make_room_for(rest)?;
         self.placing.step_to(at);
@@ -275,15 +205,8 @@ impl<'a> Pass<'a> {
         opening: OpeningFence,
     ) -> Result<bool, AllocError>
         requires { MayBeginBlock self.old rest.now at (start.Fence opening) }
-        ensures text { IfOk result (λ _. self.new.placing.builder.text
-            ≡ self.old.placing.builder.text) }
-        ensures tables { IfOk result (λ _. self.new.tables ≡ self.old.tables) }
-        ensures more { IfOk result (λ more. more ≡ false) }
-        ensures places { IfOk result (λ _. (s : Source) (turn : Turn) (source : SourceLine)
-            (blocks : Forest Block) → IsHere s self.old rest.now turn source blocks
-            → IsFound s rest.now source at (start.Fence opening)
-            → InfoStands self.old.placing.builder.text opening
-            → PlacesFor s self.new rest.now.line.next blocks) }
+        ensures { IfOk result (λ more. Begins self.old rest.now at (start.Fence opening)
+            self.new rest.now more) }
     {
         self.make_room_for(rest)?;
         self.open_fenced(rest.line, at, opening)?;
@@ -293,20 +216,8 @@ impl<'a> Pass<'a> {
     /// Reads the first line of an HTML block. Returns false.
     fn read_html(&mut self, rest: &LineRest<'a>, kind: HtmlKind) -> Result<bool, AllocError>
         requires { (at : ℕ) × MayBeginBlock self.old rest.now at (start.Html kind) }
-        ensures text { IfOk result (λ _. self.new.placing.builder.text
-            ≡ self.old.placing.builder.text) }
-        ensures tables { IfOk result (λ _. self.new.tables ≡ self.old.tables) }
-        ensures more { IfOk result (λ more. more ≡ false) }
-        ensures places { IfOk result (λ _. (s : Source) (turn : Turn) (source : SourceLine)
-            (at : ℕ) (blocks : Forest Block) → IsHere s self.old rest.now turn source blocks
-            → IsFound s rest.now source at (start.Html kind)
-            → IsHeldLine self.old.placing.builder.text (record {
-              start = at;
-              stop = rest.now.line.stop;
-              next = rest.now.line.next;
-              owed = 0;
-            })
-            → PlacesFor s self.new rest.now.line.next blocks) }
+        ensures { IfOk result (λ more. (at : ℕ) → Begins self.old rest.now at (start.Html kind)
+            self.new rest.now more) }
     {
         self.make_room_for(rest)?;
         self.open_html(rest.line, rest.position, kind)?;
@@ -322,15 +233,9 @@ impl<'a> Pass<'a> {
         inside: Position,
     ) -> Result<bool, AllocError>
         requires { MayBeginBlock self.old rest.old at (start.Footnote label inside) }
-        ensures text { IfOk result (λ _. self.new.placing.builder.text
-            ≡ self.old.placing.builder.text) }
-        ensures tables { IfOk result (λ _. self.new.tables ≡ self.old.tables) }
-        ensures more { IfOk result (λ more. more ≡ true) }
-        ensures reads_on { IfOk result (λ _. (s : Source) (turn : Turn) (source : SourceLine)
-            (blocks : Forest Block) → IsHere s self.old rest.old turn source blocks
-            → IsFound s rest.old source at (start.Footnote label.entry inside)
-            → IsCharBoundary self.old.placing.builder.text inside.at
-            → ReadsOn s self.new rest.old rest.new blocks) }
+        ensures { IfOk result (λ more.
+            Begins self.old rest.old at (start.Footnote label.entry inside) self.new rest.new
+            more) }
     {
         self.make_room_for(rest)?;
         self.open_footnote(at, label)?;
@@ -347,13 +252,8 @@ impl<'a> Pass<'a> {
         level: HeadingLevel,
     ) -> Result<bool, AllocError>
         requires { MayBeginBlock self.old rest.old at (start.Underline level) }
-        ensures text { IfOk result (λ _. self.new.placing.builder.text
-            ≡ self.old.placing.builder.text) }
-        ensures tables { IfOk result (λ _. self.new.tables ≡ self.old.tables) }
-        ensures begins { IfOk result (λ more. (s : Source) (turn : Turn) (source : SourceLine)
-            (blocks : Forest Block) → IsHere s self.old rest.old turn source blocks
-            → IsFound s rest.old source at (start.Underline level)
-            → HasBegun s self.new rest.old rest.new blocks more) }
+        ensures { IfOk result (λ more. Begins self.old rest.old at (start.Underline level)
+            self.new rest.new more) }
     {
         if self.underlines_nothing(rest.line, at)? {
             return self.read_text(rest, at);
@@ -366,14 +266,8 @@ impl<'a> Pass<'a> {
     /// Reads a thematic break. Returns false.
     fn read_break(&mut self, rest: &LineRest<'a>, at: usize) -> Result<bool, AllocError>
         requires { MayBeginBlock self.old rest.now at start.ThematicBreak }
-        ensures text { IfOk result (λ _. self.new.placing.builder.text
-            ≡ self.old.placing.builder.text) }
-        ensures tables { IfOk result (λ _. self.new.tables ≡ self.old.tables) }
-        ensures more { IfOk result (λ more. more ≡ false) }
-        ensures places { IfOk result (λ _. (s : Source) (turn : Turn) (source : SourceLine)
-            (blocks : Forest Block) → IsHere s self.old rest.now turn source blocks
-            → IsFound s rest.now source at start.ThematicBreak
-            → PlacesFor s self.new rest.now.line.next blocks) }
+        ensures { IfOk result (λ more. Begins self.old rest.now at start.ThematicBreak
+            self.new rest.now more) }
     {
         self.make_room_for(rest)?;
         self.placing.step_to(at);
@@ -389,15 +283,8 @@ impl<'a> Pass<'a> {
         item: ItemStart,
     ) -> Result<bool, AllocError>
         requires { MayBeginBlock self.old rest.old at (start.Item item) }
-        ensures text { IfOk result (λ _. self.new.placing.builder.text
-            ≡ self.old.placing.builder.text) }
-        ensures tables { IfOk result (λ _. self.new.tables ≡ self.old.tables) }
-        ensures more { IfOk result (λ more. more ≡ true) }
-        ensures reads_on { IfOk result (λ _. (s : Source) (turn : Turn) (source : SourceLine)
-            (blocks : Forest Block) → IsHere s self.old rest.old turn source blocks
-            → IsFound s rest.old source at (start.Item item)
-            → IsCharBoundary self.old.placing.builder.text item.inside.at
-            → ReadsOn s self.new rest.old rest.new blocks) }
+        ensures { IfOk result (λ more. Begins self.old rest.old at (start.Item item)
+            self.new rest.new more) }
     {
         self.open_item(item, at, rest.depth)?;
         Ok(self.go_inside(rest, item.inside))
@@ -410,14 +297,8 @@ impl<'a> Pass<'a> {
         kind: MetadataBlockKind,
     ) -> Result<bool, AllocError>
         requires { (at : ℕ) × MayBeginBlock self.old rest.now at (start.Metadata kind) }
-        ensures text { IfOk result (λ _. self.new.placing.builder.text
-            ≡ self.old.placing.builder.text) }
-        ensures tables { IfOk result (λ _. self.new.tables ≡ self.old.tables) }
-        ensures more { IfOk result (λ more. more ≡ false) }
-        ensures places { IfOk result (λ _. (s : Source) (turn : Turn) (source : SourceLine)
-            (at : ℕ) (blocks : Forest Block) → IsHere s self.old rest.now turn source blocks
-            → IsFound s rest.now source at (start.Metadata kind)
-            → PlacesFor s self.new rest.now.line.next blocks) }
+        ensures { IfOk result (λ more. (at : ℕ) → Begins self.old rest.now at (start.Metadata kind)
+            self.new rest.now more) }
     {
         self.make_room_for(rest)?;
         self.open_metadata(kind, rest.line)?;

@@ -1,30 +1,24 @@
 //! The block pass, line by line: which open blocks continue, which blocks begin (`beginnings`), and what a lazy
 //! continuation line continues (CommonMark, appendix on parsing). Functions that return a `Result` fail only where memory
 //! is refused; what was built by then is not used.
-ghost use Rattle.std.specs.Prelude.{◌≡◌, [], true, false, Some, None, IfOk, length, slice_range, take};
+ghost use Rattle.std.specs.Prelude.{◌≡◌, [], true, false, Some, IfOk, length, slice_range, take};
 ghost use Rattle.std.specs.List.{list_all};
 ghost use Rattle.std.specs.Str.{IsCharBoundary};
-ghost use Rattle.markdown_base.specs.Forest.{Forest, nil};
-ghost use Rattle.markdown_block_rules.specs.BlockGrowth.{Block, blocks_of, with_line, with_next_line};
+ghost use Rattle.markdown_base.specs.Forest.{Forest};
+ghost use Rattle.markdown_block_rules.specs.BlockGrowth.{Block, blocks_of};
 ghost use Rattle.markdown_block_rules.specs.BlockResults.{IsBlockResult};
 ghost use Rattle.markdown_base.specs.Source.{Source, source_as};
 ghost use Rattle.markdown_lines.specs.Lines.{AllPass, is_in_blank_line, is_space_or_tab};
-ghost use Rattle.markdown_lines.specs.SourceLines.{SourceLine, is_blank_rest};
 ghost use Rattle.markdown_lines.specs.declared.position.Position.{Position};
-ghost use Rattle.markdown_plain.specs.Beginning.{IsHere, IsMadeOf, Turn};
-ghost use Rattle.markdown_plain.specs.Beginning.{MayRead};
-ghost use Rattle.markdown_plain.specs.Closable.{MayMakeRoom};
-ghost use Rattle.markdown_plain.specs.Readable.{MayGoOn, MayReadLine, MayReadOn, MayReadRest, MayReadText};
+ghost use Rattle.markdown_plain.specs.Beginning.{IsMadeOf, MayRead, Reads};
+ghost use Rattle.markdown_plain.specs.Readable.{IsDelimiterRow, IsNoDelimiterRow, LastGoesOff, LastGoesOn};
+ghost use Rattle.markdown_plain.specs.Readable.{LeafGoesOn, LeafLeavesOff, MayGoOn, MayReadAsText, MayReadLine};
+ghost use Rattle.markdown_plain.specs.Readable.{MayReadOn, MayReadRest, MayReadText, ReadsAsText, ReadsLine, ReadsRest};
 ghost use Rattle.markdown_plain.specs.ListLooseness.{blank_from};
 ghost use Rattle.markdown_plain.specs.OpenBlocks.{is_list};
-ghost use Rattle.markdown_plain.specs.ReachedLines as lines;
-ghost use Rattle.markdown_plain.specs.ReachedLines.{GoesOffAs, IsReachedBy, LeavesOff, blocks_before};
-ghost use Rattle.markdown_plain.specs.ReachedLines.{blocks_in, reached_of};
 ghost use Rattle.markdown_plain.specs.Settled.{IsBuilt};
-ghost use Rattle.markdown_plain.specs.Standing.{IsSource, PlacesFor, Stands, StandsFor};
-ghost use Rattle.markdown_plain.specs.TextLines.{BeginsNoBlock, IsTextFrom, IsTextHere};
-ghost use Rattle.markdown_plain.specs.TableHeads.{IfParagraphLast, IsUntabled};
-ghost use Rattle.markdown_plain.specs.TableRows.{IsCounted};
+ghost use Rattle.markdown_plain.specs.Standing.{PlacesFor, StandsFor};
+ghost use Rattle.markdown_plain.specs.TextLines.{BeginsNoBlock, IsTextFrom};
 
 use crate::beginnings::LineRest;
 use crate::containers::{Reached, reach};
@@ -100,21 +94,9 @@ impl<'a> Pass<'a> {
     /// Reads a line, where `ahead` are the lines of the text. Where no block is open, the first byte of most lines shows
     /// that they are text.
     fn read_line(&mut self, line: Line, ahead: &mut LinesAhead<'a>) -> Result<(), AllocError>
-        requires stop { IsCharBoundary ahead.old.text.now line.stop }
-        requires may { MayReadLine ahead.old.text.now self.old line }
-        ensures text { IfOk result (λ _. self.new.placing.builder.text
-            ≡ self.old.placing.builder.text) }
+        requires { MayReadLine ahead.old.text.now self.old line }
         ensures ahead { ahead.new.text.now ≡ ahead.old.text.now }
-        ensures stands { IfOk result (λ _. (s : Source) (before : lines.Before)
-            (source : SourceLine) → ahead.old.text.now ≡ s.text
-            → Stands s self.old before.frames before.inside before.last line.start
-            → IsSource self.old line source → IsCounted s self.old (blocks_before before)
-            → StandsFor s self.new line.next (with_next_line s (blocks_before before) source)) }
-        ensures counted { IfOk result (λ _. (s : Source) (before : lines.Before)
-            (source : SourceLine) → ahead.old.text.now ≡ s.text
-            → Stands s self.old before.frames before.inside before.last line.start
-            → IsSource self.old line source → IsCounted s self.old (blocks_before before)
-            → IsCounted s self.new (with_next_line s (blocks_before before) source)) }
+        ensures reads { IfOk result (λ _. ReadsLine ahead.old.text.now self.old line self.new) }
     {
         if !self.placing.open_blocks().is_empty()
             || !begins_text(self.placing.text(), line.start, line.stop)
@@ -129,18 +111,8 @@ impl<'a> Pass<'a> {
     // inlined, as `add_text`
     #[inline(always)]
     fn read_text_line(&mut self, line: Line, start: usize, depth: usize) -> Result<(), AllocError>
-        requires { MayMakeRoom self.old depth }
-        ensures text { IfOk result (λ _. self.new.placing.builder.text
-            ≡ self.old.placing.builder.text) }
-        ensures tables { IfOk result (λ _. self.new.tables ≡ self.old.tables) }
-        ensures stands { IfOk result (λ _. (s : Source) (before : lines.Before)
-            (source : SourceLine)
-            → Stands s self.old before.frames before.inside before.last line.start
-            → IsSource self.old line source
-            → IsTextHere s self.old line start depth (blocks_in before) (reached_of s before source)
-            → IfParagraphLast s (IsUntabled s self.old line.start (reached_of s before source))
-            before.last
-            → StandsFor s self.new line.next (with_line s (blocks_before before) source)) }
+        requires { MayReadAsText self.old line start depth }
+        ensures { IfOk result (λ _. ReadsAsText self.old line start depth self.new) }
     {
         self.add_text(line, start, depth)?;
         self.see_content(line);
@@ -162,21 +134,9 @@ impl<'a> Pass<'a> {
     /// Reads a line, whatever blocks continue or begin in it.
     #[inline(never)]
     fn read_any_line(&mut self, line: Line, ahead: &mut LinesAhead<'a>) -> Result<(), AllocError>
-        requires stop { IsCharBoundary ahead.old.text.now line.stop }
-        requires may { MayReadLine ahead.old.text.now self.old line }
-        ensures text { IfOk result (λ _. self.new.placing.builder.text
-            ≡ self.old.placing.builder.text) }
+        requires { MayReadLine ahead.old.text.now self.old line }
         ensures ahead { ahead.new.text.now ≡ ahead.old.text.now }
-        ensures stands { IfOk result (λ _. (s : Source) (before : lines.Before)
-            (source : SourceLine) → ahead.old.text.now ≡ s.text
-            → Stands s self.old before.frames before.inside before.last line.start
-            → IsSource self.old line source → IsCounted s self.old (blocks_before before)
-            → StandsFor s self.new line.next (with_next_line s (blocks_before before) source)) }
-        ensures counted { IfOk result (λ _. (s : Source) (before : lines.Before)
-            (source : SourceLine) → ahead.old.text.now ≡ s.text
-            → Stands s self.old before.frames before.inside before.last line.start
-            → IsSource self.old line source → IsCounted s self.old (blocks_before before)
-            → IsCounted s self.new (with_next_line s (blocks_before before) source)) }
+        ensures reads { IfOk result (λ _. ReadsLine ahead.old.text.now self.old line self.new) }
     {
         let reached = reach(self, line);
         if self.last_goes_on(line, reached, ahead)? {
@@ -197,26 +157,12 @@ impl<'a> Pass<'a> {
         reached: Reached,
         ahead: &mut LinesAhead<'a>,
     ) -> Result<bool, AllocError>
-        requires stop { IsCharBoundary ahead.old.text.now line.stop }
-        requires may { MayReadOn ahead.old.text.now self.old line reached }
-        ensures text { IfOk result (λ _. self.new.placing.builder.text
-            ≡ self.old.placing.builder.text) }
+        requires { MayReadOn ahead.old.text.now self.old line reached }
         ensures ahead { ahead.new.text.now ≡ ahead.old.text.now }
-        ensures places { IfOk result (λ goes. goes ≡ true → (s : Source) (before : lines.Before)
-            (source : SourceLine) → ahead.old.text.now ≡ s.text
-            → IsReachedBy s self.old line reached before source
-            → IsCounted s self.old (blocks_before before)
-            → PlacesFor s self.new line.next (with_next_line s (blocks_before before) source)) }
-        ensures counted { IfOk result (λ goes. goes ≡ true → (s : Source) (before : lines.Before)
-            (source : SourceLine) → ahead.old.text.now ≡ s.text
-            → IsReachedBy s self.old line reached before source
-            → IsCounted s self.old (blocks_before before)
-            → IsCounted s self.new (with_next_line s (blocks_before before) source)) }
-        ensures off { IfOk result (λ goes. goes ≡ false → (self.new ≡ self.old)
-            × ((s : Source) (before : lines.Before) (source : SourceLine)
-            → ahead.old.text.now ≡ s.text → IsReachedBy s self.old line reached before source
-            → IsCounted s self.old (blocks_before before)
-            → GoesOffAs s self.old line reached before source)) }
+        ensures goes { IfOk result (λ goes. goes ≡ true
+            → LastGoesOn ahead.old.text.now self.old line reached self.new) }
+        ensures off { IfOk result (λ goes. goes ≡ false
+            → LastGoesOff ahead.old.text.now self.old line reached self.new) }
     {
         if !reached.all {
             return Ok(false);
@@ -240,19 +186,10 @@ impl<'a> Pass<'a> {
         reached: Reached,
         ahead: &mut LinesAhead<'a>,
     ) -> Result<(), AllocError>
-        requires stop { IsCharBoundary ahead.old.text.now line.stop }
-        requires may { MayReadRest ahead.old.text.now self.old line reached false }
-        ensures text { IfOk result (λ _. self.new.placing.builder.text
-            ≡ self.old.placing.builder.text) }
+        requires { MayReadRest ahead.old.text.now self.old line reached false }
         ensures ahead { ahead.new.text.now ≡ ahead.old.text.now }
-        ensures tables { IfOk result (λ _. self.new.tables ≡ self.old.tables) }
-        ensures stands { IfOk result (λ _. (s : Source) (before : lines.Before)
-            (source : SourceLine) → ahead.old.text.now ≡ s.text
-            → IsReachedBy s self.old line reached before source
-            → is_blank_rest (reached_of s before source).rest ≡ false
-            → ((reached_of s before source).inner ≡ []
-            → LeavesOff s (reached_of s before source).rest before.last)
-            → StandsFor s self.new line.next (with_line s (blocks_before before) source)) }
+        ensures reads { IfOk result (λ _.
+            ReadsRest ahead.old.text.now self.old line reached false self.new) }
     {
         if is_text_from(self.placing.text(), reached.position, line.stop) {
             return self.read_text_line(line, reached.position.at, reached.depth);
@@ -269,19 +206,10 @@ impl<'a> Pass<'a> {
     /// whether it is.
     fn read_delimiter_row(&mut self, line: Line, reached: Reached) -> Result<bool, AllocError>
         requires { MayReadRest self.old.placing.builder.text self.old line reached false }
-        ensures text { IfOk result (λ _. self.new.placing.builder.text
-            ≡ self.old.placing.builder.text) }
-        ensures tables { IfOk result (λ _. self.new.tables ≡ self.old.tables) }
-        ensures places { IfOk result (λ is. is ≡ true → (s : Source) (before : lines.Before)
-            (source : SourceLine) → IsReachedBy s self.old line reached before source
-            → is_blank_rest (reached_of s before source).rest ≡ false
-            → PlacesFor s self.new line.next (with_line s (blocks_before before) source)) }
-        ensures same { IfOk result (λ is. is ≡ false
-            → self.new ≡ record self.old { tried = self.new.tried }) }
-        ensures untabled { IfOk result (λ is. is ≡ false → (s : Source) (before : lines.Before)
-            (source : SourceLine) → IsReachedBy s self.old line reached before source
-            → IfParagraphLast s (IsUntabled s self.new line.start (reached_of s before source))
-            before.last) }
+        ensures row { IfOk result (λ is. is ≡ true
+            → IsDelimiterRow self.old line reached self.new) }
+        ensures none { IfOk result (λ is. is ≡ false
+            → IsNoDelimiterRow self.old line reached self.new) }
     {
         if !reached.all || !self.has_paragraph() || !self.syntax.tables {
             return Ok(false);
@@ -314,18 +242,10 @@ impl<'a> Pass<'a> {
     fn goes_on(&mut self, line: Line, reached: Reached) -> Result<bool, AllocError>
         requires may { MayGoOn self.old.placing.builder.text self.old line reached }
         requires leaf { self.old.placing.builder.leaf ≡ true }
-        ensures text { IfOk result (λ _. self.new.placing.builder.text
-            ≡ self.old.placing.builder.text) }
-        ensures tables { IfOk result (λ _. self.new.tables ≡ self.old.tables) }
-        ensures places { IfOk result (λ goes. goes ≡ true → (s : Source) (before : lines.Before)
-            (source : SourceLine) → IsReachedBy s self.old line reached before source
-            → self.old.placing.builder.leaf ≡ true → (reached_of s before source).inner ≡ []
-            → PlacesFor s self.new line.next (with_line s (blocks_before before) source)) }
-        ensures leaves_off { IfOk result (λ goes. goes ≡ false → (self.new ≡ self.old)
-            × ((s : Source) (before : lines.Before) (source : SourceLine)
-            → IsReachedBy s self.old line reached before source
-            → self.old.placing.builder.leaf ≡ true
-            → LeavesOff s (reached_of s before source).rest before.last)) }
+        ensures goes { IfOk result (λ goes. goes ≡ true
+            → LeafGoesOn self.old line reached self.new) }
+        ensures off { IfOk result (λ goes. goes ≡ false
+            → LeafLeavesOff self.old line reached self.new) }
     {
         let blank = reached.content >= line.stop;
         match self.leaf {
@@ -351,15 +271,8 @@ impl<'a> Pass<'a> {
     /// Reads a line that is blank for the innermost blocks that continue in it.
     fn read_blank(&mut self, line: Line, reached: Reached) -> Result<(), AllocError>
         requires { MayReadRest self.old.placing.builder.text self.old line reached true }
-        ensures text { IfOk result (λ _. self.new.placing.builder.text
-            ≡ self.old.placing.builder.text) }
-        ensures tables { IfOk result (λ _. self.new.tables ≡ self.old.tables) }
-        ensures stands { IfOk result (λ _. (s : Source) (before : lines.Before)
-            (source : SourceLine) → IsReachedBy s self.old line reached before source
-            → is_blank_rest (reached_of s before source).rest ≡ true
-            → ((reached_of s before source).inner ≡ []
-            → LeavesOff s (reached_of s before source).rest before.last)
-            → StandsFor s self.new line.next (with_line s (blocks_before before) source)) }
+        ensures { IfOk result (λ _. ReadsRest self.old.placing.builder.text self.old line reached
+            true self.new) }
     {
         let in_code = match self.leaf {
             LeafKind::Indented => self.placing.is_in_leaf(),
@@ -400,12 +313,7 @@ impl<'a> Pass<'a> {
     #[inline(always)]
     fn read_rest(&mut self, rest: &mut LineRest<'a>) -> Result<(), AllocError>
         requires { MayRead self.old rest.old }
-        ensures text { IfOk result (λ _. self.new.placing.builder.text
-            ≡ self.old.placing.builder.text) }
-        ensures tables { IfOk result (λ _. self.new.tables ≡ self.old.tables) }
-        ensures places { IfOk result (λ _. (s : Source) (turn : Turn) (source : SourceLine)
-            (blocks : Forest Block) → IsHere s self.old rest.old turn source blocks
-            → PlacesFor s self.new rest.old.line.next blocks) }
+        ensures { IfOk result (λ _. Reads self.old rest.old self.new rest.new false) }
     {
         // each container takes at least one byte of the line; what is left after the last one is read too, and a line
         // that underlines definitions is read twice; 3 more than the last byte offset need more bits
@@ -424,12 +332,9 @@ impl<'a> Pass<'a> {
     /// Reads all lines of the text, and closes all blocks.
     fn read_lines(&mut self) -> Result<(), AllocError>
         requires { MayReadText self.old }
-        ensures text { IfOk result (λ _. self.new.placing.builder.text
-            ≡ self.old.placing.builder.text) }
-        ensures made { IfOk result (λ _. (s : Source) → Stands s self.old [] nil None 0
-            → IsCounted s self.old nil → IsBuilt s self.new.placing.builder [] (blocks_of s)) }
-        ensures left { IfOk result (λ _. (s : Source) → Stands s self.old [] nil None 0
-            → IsCounted s self.old nil → AllPass is_in_blank_line self.new.placing.builder.text
+        ensures built { IfOk result (λ _. (may : MayReadText self.old)
+            → IsBuilt may.s self.new.placing.builder [] (blocks_of may.s)) }
+        ensures left { IfOk result (λ _. AllPass is_in_blank_line self.new.placing.builder.text
             self.new.placing.builder.at (length self.new.placing.builder.text)) }
     {
         let text = self.placing.text();
@@ -446,12 +351,9 @@ impl<'a> Pass<'a> {
 
 /// Returns a text's blocks, all of them placed and closed.
 fn place_all<'a>(alloc: Global, text: &'a str, syntax: Syntax) -> Result<Placing<'a>, AllocError>
-    ensures text { IfOk result (λ made. made.builder.text ≡ text.now) }
-    ensures closed { IfOk result (λ made. made.builder.blocks ≡ []) }
     ensures read { IfOk result (λ made. made.builder.at ≡ length text.now) }
-    ensures made { IfOk result (λ made. (s : Source)
-        → s ≡ record { text = text.now; syntax = syntax }
-        → IsBuilt s made.builder [] (blocks_of s)) }
+    ensures built { IfOk result (λ made. IsBuilt (source_as syntax text.now) made.builder []
+        (blocks_of (source_as syntax text.now))) }
 {
     let mut pass = Pass::new(alloc, text, syntax)?;
     pass.read_lines()?;

@@ -7,14 +7,12 @@ ghost use Rattle.markdown_base.specs.Source.{Source};
 ghost use Rattle.markdown_lines.specs.Positions.{left_from};
 ghost use Rattle.markdown_lines.specs.SourceLines.{SourceLine};
 ghost use Rattle.markdown_plain.specs.Containers as spec;
-ghost use Rattle.markdown_plain.specs.NewContainers as opening;
-ghost use Rattle.markdown_plain.specs.Closable.{AreClosable, IsInList, IsWhiteBefore, MayOpenItem};
-ghost use Rattle.markdown_plain.specs.Fitting.{IsAhead, opened};
+ghost use Rattle.markdown_plain.specs.Closable.{IsInList, MayOpenItem, MayOpenList};
+ghost use Rattle.markdown_plain.specs.Fitting.{opened};
 ghost use Rattle.markdown_plain.specs.Fits.{MayStep};
 ghost use Rattle.markdown_plain.specs.Frames.{Frame, reached};
 ghost use Rattle.markdown_plain.specs.ReachedFrames.{IsBefore, IsReached};
-ghost use Rattle.markdown_plain.specs.OpenBlocks as open_blocks;
-ghost use Rattle.markdown_plain.specs.OpenBlocks.{outer_of, without_list};
+ghost use Rattle.markdown_plain.specs.OpenBlocks.{outer_of};
 ghost use Rattle.markdown_plain.specs.Stretches.{TakesNothing, deep_starts, taken_by};
 ghost use Rattle.markdown_base.specs.declared.item.ItemBody.TheVariants as body;
 
@@ -230,21 +228,14 @@ pub fn reach(pass: &Pass<'_>, line: Line) -> Reached
 }
 
 impl<'a> Pass<'a> {
-    ghost use Rattle.std.specs.Prelude.{◌≤◌, false, drop, length, Option};
+    ghost use Rattle.std.specs.Prelude.{false};
     ghost use Rattle.markdown_base.specs.CowText.{text_of};
-    ghost use Rattle.markdown_base.specs.Forest.{Forest, nil};
-    ghost use Rattle.markdown_block_rules.specs.BlockGrowth.{Block, footnote_container, item_container};
-    ghost use Rattle.markdown_block_rules.specs.BlockGrowth.{list_container};
-    ghost use Rattle.markdown_base.specs.Source.{Source};
-    ghost use Rattle.markdown_plain.specs.Beginning.{HoldsLast};
-    ghost use Rattle.markdown_plain.specs.Closing.{MayClose};
-    ghost use Rattle.markdown_plain.specs.Standing.{with_last};
-    ghost use Rattle.markdown_plain.specs.Frames.{Frame, forgotten, innermost_is, is_list, rebuilt};
-    ghost use Rattle.markdown_plain.specs.OpenedFrames.{MayOpen, is_list_for, quote_kind, with_frame};
-    ghost use Rattle.markdown_plain.specs.OpenedFrames.{with_item};
-    ghost use Rattle.markdown_plain.specs.Frames.{is_item};
-    ghost use Rattle.markdown_block_rules.specs.BlockGrowth.{is_nil};
-    ghost use Rattle.markdown_plain.specs.Settled.{BlanksKnown, IsBuilt, IsLooseAs};
+    ghost use Rattle.markdown_base.specs.Forest.{nil};
+    ghost use Rattle.markdown_block_rules.specs.BlockGrowth.{footnote_container, list_container};
+    ghost use Rattle.markdown_plain.specs.Frames.{innermost_is, is_item, is_list};
+    ghost use Rattle.markdown_plain.specs.OpenedFrames.{quote_kind, with_frame};
+    ghost use Rattle.markdown_plain.specs.PassSteps.{HasList, HasOnly, OpensItem};
+    ghost use Rattle.markdown_plain.specs.Settled.{IsBuilt};
 
     /// Opens a block quote, an alert of a kind or none, whose marker is at the byte offset `at`.
     pub fn open_quote(&mut self, at: usize, kind: Option<BlockQuoteKind>) -> Result<(), AllocError>
@@ -268,51 +259,7 @@ impl<'a> Pass<'a> {
     /// `depth` of the open blocks.
     pub fn open_item(&mut self, item: ItemStart, at: usize, depth: usize) -> Result<(), AllocError>
         requires { MayOpenItem self.old depth at }
-        ensures text { IfOk result (λ _. self.new.placing.builder.text
-            ≡ self.old.placing.builder.text) }
-        ensures here { IfOk result (λ _. self.new.placing.builder.at ≡ at) }
-        ensures ended { IfOk result (λ _. self.new.lines.items ≡ []) }
-        ensures begins { IfOk result (λ _. (s : Source) (frames : List Frame)
-            (inside : Forest Block) (list b : Block) → MayOpen s self.old frames inside
-            → depth ≡ length frames
-            → list.start ≡ at → list.kind ≡ list_container item.marker
-            → b.start ≡ at → b.kind ≡ item_container item.indent
-            → IsBuilt s self.new.placing.builder (with_frame (with_frame frames inside list) nil b)
-            nil) }
-        ensures inside { IfOk result (λ _. (s : Source) (frames : List Frame) (list b : Block)
-            → MayOpen s self.old frames nil → depth ≡ length frames
-            → IsLooseAs self.old.looseness frames nil
-            → is_list list.kind ≡ true → is_item b.kind ≡ true
-            → (self.new ≡ record self.old {
-              placing = self.new.placing;
-              looseness = self.new.looseness;
-            })
-            × IsLooseAs self.new.looseness (with_frame (with_frame frames nil list) nil b) nil) }
-        ensures frame { IfOk result (λ _. (s : Source) (frames : List Frame)
-            (inside : Forest Block) (last : Option Block) (list b : Block)
-            → HoldsLast s self.old frames inside last
-            → list.start ≡ at → list.kind ≡ list_container item.marker
-            → b.start ≡ at → b.kind ≡ item_container item.indent
-            → IsBuilt s self.new.placing.builder (with_item item.marker list b (take depth frames)
-            (rebuilt (drop depth frames) (with_last inside last))) nil) }
-        ensures loose { IfOk result (λ _. (s : Source) (frames : List Frame)
-            (inside : Forest Block) (last : Option Block) (list b : Block)
-            → HoldsLast s self.old frames inside last
-            → IsLooseAs self.old.looseness frames (with_last inside last)
-            → BlanksKnown self.old.looseness.blank_from 0 frames (with_last inside last)
-            → is_list list.kind ≡ true → is_item b.kind ≡ true
-            → IsLooseAs self.new.looseness (with_item item.marker list b (take depth frames)
-            (rebuilt (drop depth frames) (with_last inside last))) nil) }
-        ensures dropped { IfOk result (λ _. self.old.placing.builder.leaf ≡ true
-            → self.new.blanks.items ≡ []) }
-        ensures unheld { IfOk result (λ _. self.old.blanks.items ≡ []
-            → self.new.blanks.items ≡ []) }
-        ensures same { self.new ≡ record self.old {
-          placing = self.new.placing;
-          lines = self.new.lines;
-          blanks = self.new.blanks;
-          looseness = self.new.looseness;
-        } }
+        ensures { IfOk result (λ _. OpensItem self.old self.new item at depth) }
     {
         self.close_down(depth)?;
         self.open_list(item.marker, at)?;
@@ -323,52 +270,18 @@ impl<'a> Pass<'a> {
     /// Adds an item to the innermost open block, if that is a list with this character, and otherwise opens a list. The
     /// item itself is not opened yet.
     fn open_list(&mut self, marker: ListMarker, at: usize) -> Result<(), AllocError>
-        requires outside { self.old.placing.builder.leaf ≡ false }
-        requires ahead { IsAhead self.old.placing.builder at }
-        requires white { without_list self.old.placing.builder.blocks ≡ []
-            → IsWhiteBefore self.old.placing.builder at }
-        requires closable { open_blocks.innermost_is open_blocks.is_list
-            self.old.placing.builder.blocks ≡ true
-            → AreClosable self.old.placing.builder self.old.placed }
+        requires { MayOpenList self.old at }
         ensures text { IfOk result (λ _. self.new.placing.builder.text
             ≡ self.old.placing.builder.text) }
-        ensures around { IfOk result (λ _. self.new.placing.builder.blocks
-            ≡ opening.around_item at marker self.old.placing.builder.blocks) }
-        ensures continues { IfOk result (λ _. (s : Source) (frames : List Frame)
-            (inside : Forest Block) → IsBuilt s self.old.placing.builder frames inside
-            → innermost_is (is_list_for marker) frames ≡ true
-            → IsBuilt s self.new.placing.builder frames inside) }
-        ensures begins { IfOk result (λ _. (s : Source) (frames : List Frame)
-            (inside : Forest Block) (b : Block) → IsBuilt s self.old.placing.builder frames inside
-            → innermost_is is_list frames ≡ false → b.start ≡ at → b.kind ≡ list_container marker
-            → IsBuilt s self.new.placing.builder (with_frame frames inside b) nil) }
-        ensures changes { IfOk result (λ _. (s : Source) (frames : List Frame) (f : Frame)
-            (inside : Forest Block) (b : Block) → MayClose s self.old (frames ++ f ∷ []) inside
-            → is_list f.block.kind ≡ true → is_list_for marker f.block.kind ≡ false → b.start ≡ at
-            → b.kind ≡ list_container marker → IsBuilt s self.new.placing.builder (with_frame frames
-            (forgotten f inside) b) nil) }
-        ensures loose_begins { IfOk result (λ _. (s : Source) (frames : List Frame)
-            (inside : Forest Block) (list b : Block)
-            → IsBuilt s self.old.placing.builder frames inside
-            → innermost_is is_list frames ≡ false → IsLooseAs self.old.looseness frames inside
-            → (is_nil inside ≡ false
-            → BlanksKnown self.old.looseness.blank_from 0 frames inside)
-            → is_list list.kind ≡ true → is_item b.kind ≡ true
-            → IsLooseAs self.new.looseness (with_frame (with_frame frames inside list) nil b) nil) }
-        ensures loose { IfOk result (λ _. (s : Source) (frames : List Frame)
-            (inside : Forest Block) (list b : Block)
-            → IsBuilt s self.old.placing.builder frames inside
-            → IsLooseAs self.old.looseness frames inside
-            → BlanksKnown self.old.looseness.blank_from 0 frames inside
-            → is_list list.kind ≡ true → is_item b.kind ≡ true
-            → IsLooseAs self.new.looseness (with_item marker list b frames inside) nil) }
-        ensures empty { IfOk result (λ _. self.new.looseness.item_is_empty ≡ true) }
-        ensures same { self.new ≡ record self.old {
+        ensures opens { IfOk result (λ _. (s : Source) (frames : List Frame)
+            (inside : Forest Block) (list item : Block) → HasOnly s self.old frames inside
+            → list.start ≡ at → list.kind ≡ list_container marker → is_item item.kind ≡ true
+            → HasList s self.new marker list item frames inside) }
+        ensures here { IfOk result (λ _. IsInList self.new.placing.builder at) }
+        ensures same { IfOk result (λ _. self.new ≡ record self.old {
           placing = self.new.placing;
           looseness = self.new.looseness;
-        } }
-        ensures here { IfOk result (λ _. self.old.placing.builder.leaf ≡ false
-            → self.old.placing.builder.at ≤ at → IsInList self.new.placing.builder at) }
+        }) }
     {
         if let Some(ItemBody::List(_, character, _)) = innermost(&self.placing) {
             if character == marker.character {

@@ -1,37 +1,22 @@
 //! Leaf blocks other than paragraphs (CommonMark 4.1 to 4.6): how they are opened, and how they continue. Functions
 //! that return a `Result` fail only if an allocation fails.
-ghost use Rattle.std.specs.Prelude.{◌≡◌, ◌≤◌, ◌++◌, ◌∷◌, [], true, false, ℕ, List, Some, None, IfOk};
+ghost use Rattle.std.specs.Prelude.{◌≡◌, ◌≤◌, ◌++◌, ◌∷◌, [], true, false, ℕ, List, Some, IfOk};
 ghost use Rattle.markdown_base.specs.declared.item.ItemBody.TheVariants as body;
-ghost use Rattle.markdown_scan.specs.Entity.{entity_names};
-ghost use Rattle.markdown_scan.specs.Unescape.{unescaped};
-ghost use Rattle.markdown_lines.specs.LineBytes.{IsPartOf};
 ghost use Rattle.markdown_lines.specs.Lines.{IsNextContent};
-ghost use Rattle.markdown_lines.specs.MetadataBlocks.{closes_metadata};
-ghost use Rattle.markdown_plain.specs.declared.pass.LeafKind.TheVariants as leaf_kind;
-ghost use Rattle.markdown_base.specs.Forest.{Forest};
-ghost use Rattle.markdown_builder.specs.Shown.{chain_of};
-ghost use Rattle.markdown_builder.specs.TreeLevels.{followed_by};
-ghost use Rattle.markdown_base.specs.Source.{Source};
 ghost use Rattle.markdown_lines.specs.SourceLines.{SourceLine, cut, is_blank_rest};
-ghost use Rattle.markdown_block_rules.specs.BlockGrowth.{Block, Kind, break_leaf, fenced_leaf, heading_leaf};
-ghost use Rattle.markdown_block_rules.specs.BlockGrowth.{ends_html, html_leaf, indented_leaf, leaf_with};
+ghost use Rattle.markdown_block_rules.specs.BlockGrowth.{break_leaf, fenced_leaf, heading_leaf};
+ghost use Rattle.markdown_block_rules.specs.BlockGrowth.{ends_html, html_leaf, indented_leaf};
 ghost use Rattle.markdown_block_rules.specs.BlockGrowth.{metadata_leaf};
-ghost use Rattle.markdown_block_rules.specs.BlockRules.{code_lines, shown_heading, shown_over};
-ghost use Rattle.markdown_items.specs.ContentItems.{content_items};
-ghost use Rattle.markdown_items.specs.LineItems.{item_syntax};
-ghost use Rattle.markdown_block_rules.specs.LineContents.{source_line, source_lines};
-ghost use Rattle.markdown_plain.specs.CodeLines.{after_line, code_after, ends_html_at, held, whole_of};
-ghost use Rattle.markdown_plain.specs.Fitting.{GoesOn, IsAhead, OpensFenced};
-ghost use Rattle.markdown_plain.specs.Fitting.{BracesStand, OpensHeading, OpensHeadingOf, PutsBlock};
-ghost use Rattle.markdown_plain.specs.Fitting.{closed, opened};
-ghost use Rattle.markdown_plain.specs.Fits.{IsInLeaf, MayAddAfter, MayAddBefore, MayAddHeading, MayAddLine, MayAddLines};
-ghost use Rattle.markdown_plain.specs.Fits.{MayOpenHtml, MayOpenLeaf, after_lines};
-ghost use Rattle.markdown_plain.specs.Frames.{Frame};
-ghost use Rattle.markdown_plain.specs.HeldSources.{AreHeld, IsHeld, IsRest};
-ghost use Rattle.markdown_plain.specs.LeafTrees.{HasItems, HasMoreTexts, HasTrees, OpensWith};
-ghost use Rattle.markdown_plain.specs.OpenLeaves.{InfoStands, IsLeafIn, IsLineRest, IsPlaced, has_ended, leaf_block};
-ghost use Rattle.markdown_plain.specs.Paragraphs.{source_of, IsPlacedTo};
-ghost use Rattle.markdown_plain.specs.Settled.{IsBuilt};
+ghost use Rattle.markdown_plain.specs.declared.pass.LeafKind.TheVariants as leaf_kind;
+ghost use Rattle.markdown_plain.specs.CodeLines.{ends_html_at, rest_from, whole_of};
+ghost use Rattle.markdown_plain.specs.Fitting.{BracesStand, IsAhead, OpensHeading, OpensHeadingOf};
+ghost use Rattle.markdown_plain.specs.Fits.{IsInLeaf, MayAddAfter, MayAddBefore, MayAddHeading};
+ghost use Rattle.markdown_plain.specs.Fits.{MayAddLine, MayAddLines, MayEndWith, MayOpenHtml, MayOpenLeaf};
+ghost use Rattle.markdown_plain.specs.HeldSources.{AreHeld, IsRest};
+ghost use Rattle.markdown_plain.specs.LeafGrowth.{BeginsLeaf, GrowsLeaf, IsCode};
+ghost use Rattle.markdown_plain.specs.LeafTrees.{AddsLines, ClosesIf};
+ghost use Rattle.markdown_plain.specs.OpenLeaves.{InfoStands, IsLineRest};
+ghost use Rattle.markdown_plain.specs.Standing.{IsSource};
 
 use crate::pass::{LeafKind, Pass};
 use crate::placing::Placing;
@@ -55,12 +40,8 @@ use std::alloc::{AllocError, Global};
 /// Appends a line of a code block, with its line ending: a Text, after the columns that a partly read tab owes.
 fn add_code(placing: &mut Placing<'_>, line: HeldLine) -> Result<(), AllocError>
     requires { MayAddLine placing.old.builder line.start line.next }
-    ensures text { IfOk result (λ _. placing.new.builder.text ≡ placing.old.builder.text) }
-    ensures goes_on { IfOk result (λ _. GoesOn placing.old.builder placing.new.builder
-        (after_line line.start line.next)) }
-    ensures texts { IfOk result (λ _. HasMoreTexts placing.old.builder placing.new.builder) }
-    ensures items { IfOk result (λ _. (source : SourceLine) → IsHeld line source
-        → HasItems placing.old.builder placing.new.builder (source_line (body.Text false) source)) }
+    ensures { IfOk result (λ _. AddsLines placing.old.builder placing.new.builder
+        (body.Text false) (line ∷ [])) }
 {
     placing.step_to(line.start);
     placing.add_owed(line.owed)?;
@@ -76,15 +57,8 @@ fn add_code(placing: &mut Placing<'_>, line: HeldLine) -> Result<(), AllocError>
 /// Appends lines of a code block.
 fn add_codes(placing: &mut Placing<'_>, lines: &[HeldLine]) -> Result<(), AllocError>
     requires { MayAddLines placing.old.builder lines.now }
-    ensures text { IfOk result (λ _. placing.new.builder.text ≡ placing.old.builder.text) }
-    ensures goes_on { IfOk result (λ _. GoesOn placing.old.builder placing.new.builder
-        placing.new.builder.at) }
-    ensures texts { IfOk result (λ _. HasMoreTexts placing.old.builder placing.new.builder) }
-    ensures items { IfOk result (λ _. (sources : List SourceLine) → AreHeld lines.now sources
-        → HasItems placing.old.builder placing.new.builder (source_lines (body.Text false)
-        sources)) }
-    ensures reached { IfOk result (λ _. placing.new.builder.at
-        ≡ after_lines placing.old.builder.at lines.now) }
+    ensures { IfOk result (λ _. AddsLines placing.old.builder placing.new.builder
+        (body.Text false) lines.now) }
 {
     'lines: for line in lines {
         add_code(placing, *line)?;
@@ -101,7 +75,6 @@ pub fn open_heading(
     braces: Option<Braces>,
 ) -> Result<(), AllocError>
     requires { placing.old.builder.leaf ≡ false }
-    ensures text { IfOk result (λ _. placing.new.builder.text ≡ placing.old.builder.text) }
     ensures opens { IfOk result (λ _. OpensHeading placing.old.builder placing.new.builder level) }
     ensures heading { IfOk result (λ _. BracesStand placing.old.builder.text braces
         → OpensHeadingOf placing.old.builder placing.new.builder level braces) }
@@ -115,8 +88,7 @@ pub fn open_heading(
 
 /// Returns the rest of a line from a place on.
 fn rest_of(line: Line, position: Position) -> HeldLine
-    ensures { result
-        ≡ record { start = position.at; stop = line.stop; next = line.next; owed = position.owed } }
+    ensures { result ≡ rest_from line position }
 {
     HeldLine {
         start: position.at,
@@ -145,10 +117,8 @@ impl<'a> Pass<'a> {
         requires ahead { IsAhead self.old.placing.builder line.next }
         ensures text { IfOk result (λ _. self.new.placing.builder.text
             ≡ self.old.placing.builder.text) }
-        ensures leaf { IfOk result (λ _. (s : Source) (frames : List Frame) (inside : Forest Block)
-            (b : Block) → IsBuilt s self.old.placing.builder frames inside → b.kind ≡ break_leaf
-            → b.start ≡ self.old.placing.builder.at → b.last ≡ line.next
-            → IsPlaced s self.new.placing.builder frames (followed_by inside (leaf_block b))) }
+        ensures leaf { IfOk result (λ _. BeginsLeaf self.old self.new break_leaf
+            self.old.placing.builder.at line.next true) }
         ensures same { self.new ≡ record self.old { placing = self.new.placing } }
     {
         self.placing.add_rule(line.next)
@@ -159,19 +129,9 @@ impl<'a> Pass<'a> {
         requires { MayAddHeading self.old.placing.builder line heading }
         ensures text { IfOk result (λ _. self.new.placing.builder.text
             ≡ self.old.placing.builder.text) }
-        ensures adds { IfOk result (λ _. IsPlacedTo self.old.placing.builder
-            self.new.placing.builder line.next) }
-        ensures tree { IfOk result (λ _. BracesStand self.old.placing.builder.text heading.braces
-            → HasTrees self.old.placing.builder self.new.placing.builder (shown_heading
-            (source_of self.old) self.old.placing.builder.at line.next heading.level heading.braces
-            (chain_of (content_items self.old.placing.builder.text
-            (item_syntax self.old.syntax) heading.from heading.to)))) }
-        ensures leaf { IfOk result (λ _. (s : Source) (frames : List Frame) (inside : Forest Block)
-            (b : Block) → IsBuilt s self.old.placing.builder frames inside
-            → s.syntax ≡ self.old.syntax → b.kind ≡ heading_leaf heading
-            → b.start ≡ self.old.placing.builder.at → b.last ≡ line.next
-            → BracesStand self.old.placing.builder.text heading.braces
-            → IsPlaced s self.new.placing.builder frames (followed_by inside (leaf_block b))) }
+        ensures leaf { IfOk result (λ _. BracesStand self.old.placing.builder.text heading.braces
+            → BeginsLeaf self.old self.new (heading_leaf heading) self.old.placing.builder.at
+            line.next true) }
         ensures same { self.new ≡ record self.old { placing = self.new.placing } }
     {
         open_heading(self.alloc, &mut self.placing, heading.level, heading.braces)?;
@@ -192,15 +152,8 @@ impl<'a> Pass<'a> {
         requires { MayOpenLeaf self.old.placing.builder at line.next }
         ensures text { IfOk result (λ _. self.new.placing.builder.text
             ≡ self.old.placing.builder.text) }
-        ensures opens { IfOk result (λ _. (info : List ℕ)
-            × IsPartOf self.old.placing.builder.text opening.from opening.to info
-            × OpensFenced self.old.placing.builder self.new.placing.builder at line.next
-            (unescaped (entity_names self.old.syntax) false info)) }
-        ensures leaf { IfOk result (λ _. (s : Source) (frames : List Frame) (inside : Forest Block)
-            (b : Block) → IsBuilt s self.old.placing.builder frames inside
-            → s.syntax ≡ self.old.syntax → InfoStands self.old.placing.builder.text opening
-            → b.kind ≡ fenced_leaf opening false [] → b.start ≡ at → b.last ≡ line.next
-            → IsLeafIn s self.new.placing.builder frames inside b false) }
+        ensures leaf { IfOk result (λ _. InfoStands self.old.placing.builder.text opening
+            → BeginsLeaf self.old self.new (fenced_leaf opening false []) at line.next false) }
         ensures kind { IfOk result (λ _. self.new.leaf ≡ leaf_kind.Fenced opening.fence) }
         ensures same { self.new
             ≡ record self.old { placing = self.new.placing; leaf = self.new.leaf } }
@@ -221,18 +174,11 @@ impl<'a> Pass<'a> {
         line: Line,
         position: Position,
     ) -> Result<(), AllocError>
-        requires line { MayAddLine self.old.placing.builder position.at line.next }
-        requires ordered { position.at ≤ line.next }
+        requires { MayEndWith self.old.placing.builder position.at line.next }
         ensures text { IfOk result (λ _. self.new.placing.builder.text
             ≡ self.old.placing.builder.text) }
-        ensures leaf { IfOk result (λ _. (s : Source) (frames : List Frame) (inside : Forest Block)
-            (b : Block) (opening : OpeningFence) (lines : List SourceLine) (source : SourceLine)
-            (kind : Kind) → IsLeafIn s self.old.placing.builder frames inside b false
-            → b.kind ≡ fenced_leaf opening false lines → opening.fence ≡ fence
-            → IsLineRest self.old.placing.builder.text position line source
-            → leaf_with s source b.kind ≡ Some kind
-            → IsLeafIn s self.new.placing.builder frames inside
-            (record b { last = source.next; kind = kind }) (has_ended kind)) }
+        ensures leaf { IfOk result (λ _. GrowsLeaf self.old self.new (leaf_kind.Fenced fence)
+            (IsLineRest self.old.placing.builder.text position line)) }
         ensures same { self.new ≡ record self.old { placing = self.new.placing } }
     {
         let text = self.placing.text();
@@ -252,10 +198,8 @@ impl<'a> Pass<'a> {
         requires { MayOpenLeaf self.old.placing.builder line.start line.next }
         ensures text { IfOk result (λ _. self.new.placing.builder.text
             ≡ self.old.placing.builder.text) }
-        ensures leaf { IfOk result (λ _. (s : Source) (frames : List Frame) (inside : Forest Block)
-            (b : Block) → IsBuilt s self.old.placing.builder frames inside
-            → b.kind ≡ metadata_leaf kind false [] → b.start ≡ line.start → b.last ≡ line.next
-            → IsLeafIn s self.new.placing.builder frames inside b false) }
+        ensures leaf { IfOk result (λ _. BeginsLeaf self.old self.new (metadata_leaf kind false [])
+            line.start line.next false) }
         ensures kind { IfOk result (λ _. self.new.leaf ≡ leaf_kind.Metadata kind) }
         ensures same { self.new
             ≡ record self.old { placing = self.new.placing; leaf = self.new.leaf } }
@@ -269,18 +213,11 @@ impl<'a> Pass<'a> {
 
     /// Adds a line to the open metadata, or closes it with the line.
     pub fn add_metadata(&mut self, kind: MetadataBlockKind, line: Line) -> Result<(), AllocError>
-        requires line { MayAddLine self.old.placing.builder line.start line.next }
-        requires ordered { line.start ≤ line.next }
+        requires { MayEndWith self.old.placing.builder line.start line.next }
         ensures text { IfOk result (λ _. self.new.placing.builder.text
             ≡ self.old.placing.builder.text) }
-        ensures leaf { IfOk result (λ _. (s : Source) (frames : List Frame) (inside : Forest Block)
-            (b : Block) (lines : List SourceLine) (position : Position) (source : SourceLine)
-            (now : Kind) → IsLeafIn s self.old.placing.builder frames inside b false
-            → b.kind ≡ metadata_leaf kind false lines → position.at ≡ line.start
-            → position.owed ≡ 0 → IsLineRest self.old.placing.builder.text position line source
-            → leaf_with s source b.kind ≡ Some now
-            → IsLeafIn s self.new.placing.builder frames inside
-            (record b { last = source.next; kind = now }) (has_ended now)) }
+        ensures leaf { IfOk result (λ _. GrowsLeaf self.old self.new (leaf_kind.Metadata kind)
+            (IsSource self.old line)) }
         ensures same { self.new ≡ record self.old { placing = self.new.placing } }
     {
         let content = bytes_of(self.placing.text(), line.start, line.stop);
@@ -303,25 +240,11 @@ impl<'a> Pass<'a> {
         requires { MayOpenHtml self.old.placing.builder line position }
         ensures text { IfOk result (λ _. self.new.placing.builder.text
             ≡ self.old.placing.builder.text) }
-        ensures ends { IfOk result (λ _. ends_html_at self.old.placing.builder.text position line
-            kind
-            ≡ true →
-            IsPlacedTo self.old.placing.builder self.new.placing.builder
-            (after_line position.at line.next)) }
-        ensures tree { IfOk result (λ _. (source : SourceLine)
-            → IsRest self.old.placing.builder.text position line source
-            → ends_html_at self.old.placing.builder.text position line kind ≡ true
-            → (start : ℕ) × IsNextContent self.old.placing.builder.text position.at (Some start)
-            × HasTrees self.old.placing.builder self.new.placing.builder (shown_over start
-            (after_line position.at line.next) body.HtmlBlock None
-            (chain_of (source_line body.Html source)))) }
-        ensures leaf { IfOk result (λ _. (s : Source) (frames : List Frame) (inside : Forest Block)
-            (b : Block) (source : SourceLine) → IsBuilt s self.old.placing.builder frames inside
+        ensures leaf { IfOk result (λ _. (source : SourceLine) (start : ℕ)
             → IsLineRest self.old.placing.builder.text position line source
-            → b.kind ≡ html_leaf kind (ends_html kind source) (source ∷ [])
-            → IsNextContent self.old.placing.builder.text position.at (Some b.start)
-            → b.last ≡ source.next → IsLeafIn s self.new.placing.builder frames inside b
-            (ends_html kind source)) }
+            → IsNextContent self.old.placing.builder.text position.at (Some start)
+            → BeginsLeaf self.old self.new (html_leaf kind (ends_html kind source) (source ∷ []))
+            start line.next (ends_html kind source)) }
         ensures kind { IfOk result (λ _. self.new.leaf ≡ leaf_kind.Html kind) }
         ensures same { self.new
             ≡ record self.old { placing = self.new.placing; leaf = self.new.leaf } }
@@ -345,26 +268,8 @@ impl<'a> Pass<'a> {
         requires { MayAddLine self.old.placing.builder position.at line.next }
         ensures text { IfOk result (λ _. self.new.placing.builder.text
             ≡ self.old.placing.builder.text) }
-        ensures ends { IfOk result (λ _. ends_html_at self.old.placing.builder.text position line
-            kind
-            ≡ true →
-            self.new.placing.builder
-            ≡ record (closed self.old.placing.builder self.new.placing.builder.levels) {
-              at = after_line position.at line.next;
-              texts = self.new.placing.builder.texts;
-            }) }
-        ensures goes_on { IfOk result (λ _.
-            ends_html_at self.old.placing.builder.text position line kind ≡ false →
-            GoesOn self.old.placing.builder self.new.placing.builder
-            (after_line position.at line.next)) }
-        ensures leaf { IfOk result (λ _. (s : Source) (frames : List Frame) (inside : Forest Block)
-            (b : Block) (lines : List SourceLine) (source : SourceLine) (now : Kind)
-            → IsLeafIn s self.old.placing.builder frames inside b false
-            → b.kind ≡ html_leaf kind false lines
-            → IsLineRest self.old.placing.builder.text position line source
-            → leaf_with s source b.kind ≡ Some now
-            → IsLeafIn s self.new.placing.builder frames inside
-            (record b { last = source.next; kind = now }) (has_ended now)) }
+        ensures leaf { IfOk result (λ _. GrowsLeaf self.old self.new (leaf_kind.Html kind)
+            (IsLineRest self.old.placing.builder.text position line)) }
         ensures same { self.new ≡ record self.old { placing = self.new.placing } }
     {
         self.add_html_line(line, position)?;
@@ -375,16 +280,8 @@ impl<'a> Pass<'a> {
     /// Appends the rest of a line from a place on: an Html, after the columns that a partly read tab owes.
     fn add_html_line(&mut self, line: Line, position: Position) -> Result<(), AllocError>
         requires { MayAddLine self.old.placing.builder position.at line.next }
-        ensures text { IfOk result (λ _. self.new.placing.builder.text
-            ≡ self.old.placing.builder.text) }
-        ensures goes_on { IfOk result (λ _. GoesOn self.old.placing.builder self.new.placing.builder
-            (after_line position.at line.next)) }
-        ensures texts { IfOk result (λ _. HasMoreTexts self.old.placing.builder
-            self.new.placing.builder) }
-        ensures items { IfOk result (λ _. (source : SourceLine)
-            → IsRest self.old.placing.builder.text position line source
-            → HasItems self.old.placing.builder self.new.placing.builder
-            (source_line body.Html source)) }
+        ensures adds { IfOk result (λ _. AddsLines self.old.placing.builder
+            self.new.placing.builder body.Html (rest_from line position ∷ [])) }
         ensures same { self.new ≡ record self.old { placing = self.new.placing } }
     {
         self.placing.step_to(position.at);
@@ -398,14 +295,8 @@ impl<'a> Pass<'a> {
     /// Closes the open HTML block, if a block of its kind ends with the rest of a line from a place on.
     fn end_html(&mut self, kind: HtmlKind, line: Line, position: Position)
         requires { IsInLeaf self.old.placing.builder }
-        ensures text { self.new.placing.builder.text ≡ self.old.placing.builder.text }
-        ensures ends { ends_html_at self.old.placing.builder.text position line kind ≡ true
-            → self.new.placing.builder
-            ≡ closed self.old.placing.builder self.new.placing.builder.levels }
-        ensures tree { ends_html_at self.old.placing.builder.text position line kind ≡ true
-            → PutsBlock self.old.placing.builder self.new.placing.builder }
-        ensures goes_on { ends_html_at self.old.placing.builder.text position line kind ≡ false
-            → self.new ≡ self.old }
+        ensures ends { ClosesIf (ends_html_at self.old.placing.builder.text position line kind)
+            self.old.placing.builder self.new.placing.builder }
         ensures same { self.new ≡ record self.old { placing = self.new.placing } }
     {
         if kind.ends_in(bytes_of(self.placing.text(), position.at, line.stop)) {
@@ -418,15 +309,10 @@ impl<'a> Pass<'a> {
         requires { MayOpenLeaf self.old.placing.builder position.at line.next }
         ensures text { IfOk result (λ _. self.new.placing.builder.text
             ≡ self.old.placing.builder.text) }
-        ensures items { IfOk result (λ _. (source : SourceLine)
-            → IsRest self.old.placing.builder.text position line source
-            → OpensWith self.old.placing.builder self.new.placing.builder
-            (source_line (body.Text false) source)) }
-        ensures leaf { IfOk result (λ _. (s : Source) (frames : List Frame) (inside : Forest Block)
-            (b : Block) (source : SourceLine) → IsBuilt s self.old.placing.builder frames inside
+        ensures leaf { IfOk result (λ _. (source : SourceLine)
             → IsLineRest self.old.placing.builder.text position line source
-            → is_blank_rest source ≡ false → b.kind ≡ indented_leaf (source ∷ [])
-            → b.start ≡ position.at → IsLeafIn s self.new.placing.builder frames inside b false) }
+            → is_blank_rest source ≡ false → BeginsLeaf self.old self.new
+            (indented_leaf (source ∷ [])) position.at line.next false) }
         ensures kind { IfOk result (λ _. self.new.leaf ≡ leaf_kind.Indented) }
         ensures same { self.new
             ≡ record self.old { placing = self.new.placing; leaf = self.new.leaf } }
@@ -443,19 +329,8 @@ impl<'a> Pass<'a> {
             line.next }
         ensures text { IfOk result (λ _. self.new.placing.builder.text
             ≡ self.old.placing.builder.text) }
-        ensures goes_on { IfOk result (λ _. GoesOn self.old.placing.builder self.new.placing.builder
-            (after_line position.at line.next)) }
-        ensures leaf { IfOk result (λ _. (s : Source) (frames : List Frame) (inside : Forest Block)
-            (b : Block) (lines : List SourceLine) (blank : List SourceLine) (source : SourceLine)
-            → IsLeafIn s self.old.placing.builder frames inside b false
-            → b.kind ≡ indented_leaf (lines ++ blank) → code_lines (lines ++ blank) ≡ lines
-            → AreHeld self.old.blanks.items blank
-            → IsLineRest self.old.placing.builder.text position line source
-            → is_blank_rest source ≡ false
-            → IsLeafIn s self.new.placing.builder frames inside (record b {
-              last = source.next;
-              kind = indented_leaf ((lines ++ blank) ++ source ∷ []);
-            }) false) }
+        ensures leaf { IfOk result (λ _. GrowsLeaf self.old self.new leaf_kind.Indented
+            (IsCode self.old.placing.builder.text position line)) }
         ensures emptied { IfOk result (λ _. self.new.blanks.items ≡ []) }
         ensures same { self.new
             ≡ record self.old { placing = self.new.placing; blanks = self.new.blanks } }
@@ -467,19 +342,10 @@ impl<'a> Pass<'a> {
 
     /// Holds back a blank line of the open indented code block.
     pub fn hold_blank(&mut self, line: Line, position: Position) -> Result<(), AllocError>
-        ensures held { IfOk result (λ _. self.new.blanks.items ≡ self.old.blanks.items
-            ++ held line (code_after self.old.placing.builder.text position line 4) ∷ []) }
         ensures source { IfOk result (λ _. (blank : List SourceLine) (source : SourceLine)
             → AreHeld self.old.blanks.items blank
             → IsRest self.old.placing.builder.text position line source
             → AreHeld self.new.blanks.items (blank ++ cut 4 source ∷ [])) }
-        ensures leaf { IfOk result (λ _. (s : Source) (frames : List Frame) (inside : Forest Block)
-            (b : Block) (lines : List SourceLine) (source : SourceLine)
-            → IsLeafIn s self.old.placing.builder frames inside b false
-            → b.kind ≡ indented_leaf lines → is_blank_rest source ≡ true
-            → IsLeafIn s self.new.placing.builder frames inside
-            (record b { last = source.next; kind = indented_leaf (lines ++ cut 4 source ∷ []) })
-            false) }
         ensures fits { IfOk result (λ _.
             MayAddAfter self.old.placing.builder self.old.blanks.items position.at line.next
             → position.at ≤ line.stop → line.stop ≤ line.next

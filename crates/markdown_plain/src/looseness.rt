@@ -99,10 +99,6 @@ impl Looseness {
     /// Records that the innermost list is closed, and returns whether it is loose. The list outside it continues, with
     /// this one in its last item.
     pub fn close_list(&mut self) -> bool
-        ensures closes { (outer : List Bool) (loose : Bool)
-            → self.old.lists.items ≡ outer ++ loose ∷ []
-            → (result ≡ loose) × (self.new.lists.items ≡ outer) }
-        ensures none { self.old.lists.items ≡ [] → (self.new.lists.items ≡ []) × (result ≡ false) }
         ensures ends { (frames : List Frame) (f : Frame) (inside : Forest Block)
             → frame.is_list f.block.kind ≡ true → IsLooseAs self.old (frames ++ f ∷ []) inside
             → (result ≡ defined.is_loose inside) × IsLooseAs self.new frames (forgotten f inside) }

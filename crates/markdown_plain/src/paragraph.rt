@@ -4,22 +4,23 @@ ghost use Rattle.std.specs.Prelude.{◌≡◌, ℕ, ◌<◌, ◌≤◌, ◌++◌
 ghost use Rattle.std.specs.Prelude.{MatchOption, ◌+◌, ◌==◌, drop, not, slice_get, take, if◌then◌else◌};
 ghost use Rattle.markdown_base.specs.declared.item.ItemBody.TheVariants as body;
 ghost use Rattle.markdown_builder.specs.BuilderView.{Opens};
-ghost use Rattle.markdown_plain.specs.Fitting.{BracesStand, GoesOn};
-ghost use Rattle.markdown_plain.specs.Fitting.{OpensHeading, OpensHeadingOf, defining};
-ghost use Rattle.markdown_plain.specs.Closable.{AreAhead, AreClosable, EndsHeading, HasRoomFor, HasTask};
+ghost use Rattle.markdown_plain.specs.Fitting.{BracesStand, OpensHeading, OpensHeadingOf};
+ghost use Rattle.markdown_plain.specs.Closable.{AreAhead, AreClosable, HasRoomFor, HasTask};
 ghost use Rattle.markdown_plain.specs.Closable.{MayMakeRoom};
-ghost use Rattle.markdown_plain.specs.Closable.{HaveBraces, HaveTask, IsClosable, IsInText, IsLastInText};
+ghost use Rattle.markdown_plain.specs.Closable.{HaveBraces, IsClosable, IsInText, IsLastInText};
 ghost use Rattle.markdown_plain.specs.Closable.{IsLeafOpen, IsPlaceable};
 ghost use Rattle.markdown_plain.specs.OpenBlocks.{room_in, without_leaf};
-ghost use Rattle.markdown_plain.specs.Paragraphs.{end_of, has_paragraph, is_item_in, lines_end};
-ghost use Rattle.markdown_plain.specs.Paragraphs.{paragraph_end, divided_of, first_task, shown_ended};
-ghost use Rattle.markdown_plain.specs.Paragraphs.{source_of, task_at, EndsFrom, IsDivided, IsPlacedTo};
+ghost use Rattle.markdown_plain.specs.Paragraphs.{has_paragraph, is_item_in, lines_end};
+ghost use Rattle.markdown_plain.specs.Paragraphs.{paragraph_end, task_left, divided_of};
+ghost use Rattle.markdown_plain.specs.Paragraphs.{task_at, IsDivided, IsPlacedTo};
 ghost use Rattle.markdown_plain.specs.Paragraphs.{UnderlinesNothing};
 ghost use Rattle.markdown_plain.specs.HeldSources.{IsParagraph, AreTextLines, IsTextLine};
-ghost use Rattle.markdown_plain.specs.LeafTrees.{HasItems, HasMoreTexts, HasTrees};
-ghost use Rattle.markdown_plain.specs.ParagraphItems.{after_task, heading_braces, line_or_nothing};
-ghost use Rattle.markdown_plain.specs.ParagraphItems.{task_items, text_items, AreSome, BeginsWithTask};
-ghost use Rattle.markdown_plain.specs.ParagraphItems.{HaveEnds, IsLeft};
+ghost use Rattle.markdown_plain.specs.LeafTrees.{HasItems, HasMoreTexts};
+ghost use Rattle.markdown_plain.specs.ParagraphItems.{heading_braces, line_or_nothing};
+ghost use Rattle.markdown_plain.specs.ParagraphItems.{text_items, BeginsWithTask, HaveEnds, IsLeft};
+ghost use Rattle.markdown_plain.specs.ParagraphSteps.{Appends, AppendsWhole, BeginsLine, EndsTo};
+ghost use Rattle.markdown_plain.specs.ParagraphSteps.{HasRoomForLine, MayEndParagraph, PlacesLines};
+ghost use Rattle.markdown_plain.specs.ParagraphSteps.{TakesLines, ended_at};
 ghost use Rattle.markdown_base.specs.Forest.{Forest, nil};
 ghost use Rattle.markdown_builder.specs.Shown.{Shown};
 ghost use Rattle.std.specs.Option.{option_map_or};
@@ -37,7 +38,7 @@ ghost use Rattle.markdown_plain.specs.Frames.{Frame, rebuilt, room_depth, AreNes
 ghost use Rattle.markdown_plain.specs.OpenLeaves.{HoldsParagraph, IsPlaced, ended_block, leaf_block};
 ghost use Rattle.markdown_plain.specs.OpenLeaves.{AreItemsOpenedIn, BeginsText, ComesAfter};
 ghost use Rattle.markdown_plain.specs.Settled.{AreOpen, BlanksKnown, IsBuilt, IsLooseAs, IsLooseBefore};
-ghost use Rattle.markdown_plain.specs.OpenedFrames.{MayOpen};
+ghost use Rattle.markdown_plain.specs.PassSteps.{AddsText};
 
 use crate::leaves::open_heading;
 use crate::pass::Pass;
@@ -61,6 +62,7 @@ use std::alloc::{AllocError, Global};
 
 /// Takes the definition at the beginning of a paragraph's lines, up to the end of its last line, and returns its number
 /// of lines: 0 where there is none. A line of an alert's marker, of which nothing is left, is taken too.
+#[tactic(auto, using(crate::proofs::ParagraphsLemmas::none_taken, crate::proofs::DividedLemmas::takes_nothing))]
 fn take_definition<'a>(
     alloc: Global,
     placing: &mut Placing<'a>,
@@ -68,13 +70,8 @@ fn take_definition<'a>(
     names: EntityNames,
 ) -> Result<usize, AllocError>
     requires { AreAhead placing.old.builder lines.now }
-    ensures text { IfOk result (λ _. placing.new.builder.text ≡ placing.old.builder.text) }
-    ensures steps { IfOk result (λ _. placing.new.builder
-        ≡ defining placing.old.builder placing.new.builder.definitions placing.new.builder.at) }
-    ensures within { IfOk result (λ taken. taken ≤ length lines.now) }
-    ensures none { IfOk result (λ taken. taken ≡ 0 → placing.new ≡ placing.old) }
-    ensures after { IfOk result (λ taken. 0 < taken
-        → placing.new.builder.at ≡ end_of lines.now taken) }
+    ensures lines { IfOk result (λ taken.
+        TakesLines placing.old.builder placing.new.builder lines.now taken) }
     ensures takes { IfOk result (λ taken. (sources : List SourceLine)
         → IsParagraph placing.old.builder.text lines.now sources
         → TakesDefinitions names placing.old.builder placing.new.builder lines.now sources taken) }
@@ -82,8 +79,6 @@ fn take_definition<'a>(
         → IsParagraph placing.old.builder.text lines.now sources
         → divided names placing.old.builder.text sources
         ≡ record { definitions = []; lines = sources }) }
-    ensures ahead { IfOk result (λ taken. AreAhead placing.old.builder lines.now
-        → AreAhead placing.new.builder (drop taken lines.now)) }
 {
     let text = placing.text();
     let Some(first) = lines.first() else {
@@ -114,17 +109,11 @@ fn take_definitions<'a>(
     names: EntityNames,
 ) -> Result<usize, AllocError>
     requires { AreAhead placing.old.builder lines.now }
-    ensures text { IfOk result (λ _. placing.new.builder.text ≡ placing.old.builder.text) }
-    ensures steps { IfOk result (λ _. placing.new.builder
-        ≡ defining placing.old.builder placing.new.builder.definitions placing.new.builder.at) }
-    ensures within { IfOk result (λ taken. taken ≤ length lines.now) }
-    ensures after { IfOk result (λ taken. 0 < taken
-        → placing.new.builder.at ≡ end_of lines.now taken) }
+    ensures lines { IfOk result (λ taken.
+        TakesLines placing.old.builder placing.new.builder lines.now taken) }
     ensures divides { IfOk result (λ taken. (sources : List SourceLine)
         → IsParagraph placing.old.builder.text lines.now sources
         → IsDivided names placing.old.builder placing.new.builder sources taken) }
-    ensures ahead { IfOk result (λ taken. AreAhead placing.old.builder lines.now
-        → AreAhead placing.new.builder (drop taken lines.now)) }
 {
     let mut taken = 0;
     'definitions: while taken < lines.len() {
@@ -170,22 +159,18 @@ pub fn are_definitions(
 
 /// Appends a line that is not the paragraph's last, and the break after it. There is none where the line holds nothing
 /// more after a task marker.
+#[tactic(auto, using(crate::proofs::ParagraphTreesLemmas::step_appends))]
 fn add_broken_line(
     placing: &mut Placing<'_>,
     line: HeldLine,
     syntax: Syntax,
 ) -> Result<(), AllocError>
-    requires inside { IsLeafOpen placing.old.builder }
-    requires ahead { placing.old.builder.at ≤ line.start }
-    requires line { IsInText placing.old.builder.text line }
-    ensures text { IfOk result (λ _. placing.new.builder.text ≡ placing.old.builder.text) }
-    ensures goes_on { IfOk result (λ _. GoesOn placing.old.builder placing.new.builder line.next) }
-    ensures texts { IfOk result (λ _. HasMoreTexts placing.old.builder placing.new.builder) }
-    ensures over { IfOk result (λ _. placing.old.builder.run ≡ None
-        → placing.new.builder.run ≡ None) }
+    requires { HasRoomForLine placing.old.builder line }
+    ensures appends { IfOk result (λ _. Appends placing.old.builder placing.new.builder line.next) }
     ensures items { IfOk result (λ _. (source : SourceLine)
         → IsTextLine placing.old.builder.text line source → placing.old.builder.run ≡ None
-        → placing.old.builder.at ≡ line.start → HasItems placing.old.builder placing.new.builder
+        → placing.old.builder.at ≡ line.start
+        → AppendsWhole placing.old.builder placing.new.builder
         (line_or_nothing (record { text = placing.old.builder.text; syntax = syntax }) source)) }
 {
     if line.start == line.stop {
@@ -200,6 +185,7 @@ fn add_broken_line(
 }
 
 /// Appends the last line.
+#[tactic(auto, using(crate::proofs::ParagraphTreesLemmas::appends_twice, crate::proofs::ParagraphTreesLemmas::step_appends))]
 fn add_last_line(
     placing: &mut Placing<'_>,
     line: HeldLine,
@@ -208,9 +194,7 @@ fn add_last_line(
     requires inside { IsLeafOpen placing.old.builder }
     requires ahead { placing.old.builder.at ≤ line.start }
     requires line { IsLastInText placing.old.builder.text line }
-    ensures text { IfOk result (λ _. placing.new.builder.text ≡ placing.old.builder.text) }
-    ensures goes_on { IfOk result (λ _. GoesOn placing.old.builder placing.new.builder line.next) }
-    ensures texts { IfOk result (λ _. HasMoreTexts placing.old.builder placing.new.builder) }
+    ensures appends { IfOk result (λ _. Appends placing.old.builder placing.new.builder line.next) }
     ensures items { IfOk result (λ _. (source : SourceLine)
         → IsTextLine placing.old.builder.text line source → placing.old.builder.run ≡ None
         → placing.old.builder.at ≡ line.start → HasItems placing.old.builder placing.new.builder
@@ -233,30 +217,22 @@ struct Ends {
 
 /// Goes to the beginning of a line, appends the task marker there, if any, and returns what follows that and the white
 /// space after it.
+#[tactic(auto, using(crate::proofs::ParagraphTreesLemmas::step_appends, crate::proofs::ParagraphTreesLemmas::appends_twice, crate::proofs::ParagraphTreesLemmas::item_appends))]
 fn begin_line(
     placing: &mut Placing<'_>,
     line: HeldLine,
     task: Option<bool>,
 ) -> Result<HeldLine, AllocError>
-    requires inside { IsLeafOpen placing.old.builder }
-    requires ahead { placing.old.builder.at ≤ line.start }
-    requires line { IsInText placing.old.builder.text line }
+    requires room { HasRoomForLine placing.old.builder line }
     requires task { HasTask placing.old.builder.text task line }
-    ensures text { IfOk result (λ _. placing.new.builder.text ≡ placing.old.builder.text) }
-    ensures goes_on { IfOk result (λ rest. GoesOn placing.old.builder placing.new.builder
+    ensures appends { IfOk result (λ rest. Appends placing.old.builder placing.new.builder
         rest.start) }
-    ensures texts { IfOk result (λ _. HasMoreTexts placing.old.builder placing.new.builder) }
     ensures rest { IfOk result (λ rest. rest ≡ record line { start = rest.start }) }
-    ensures over { IfOk result (λ _. placing.old.builder.run ≡ None
-        → placing.new.builder.run ≡ None) }
-    ensures items { IfOk result (λ _. (source : SourceLine)
+    ensures within { IfOk result (λ rest. IsInText placing.old.builder.text rest) }
+    ensures begins { IfOk result (λ rest. (source : SourceLine)
         → IsTextLine placing.old.builder.text line source → BeginsWithTask task source
-        → HasItems placing.old.builder placing.new.builder (task_items task source)) }
-    ensures source { IfOk result (λ rest. (source : SourceLine)
-        → IsTextLine placing.old.builder.text line source → BeginsWithTask task source
-        → IsTextLine placing.old.builder.text rest (after_task task source)) }
-    ensures within { IfOk result (λ rest. IsInText placing.old.builder.text line
-        → HasTask placing.old.builder.text task line → IsInText placing.old.builder.text rest) }
+        → placing.old.builder.run ≡ None
+        → BeginsLine placing.old.builder placing.new.builder task source rest) }
 {
     placing.step_to(line.start);
     let Some(done) = task else {
@@ -294,18 +270,15 @@ fn add_line(
 ) -> Result<(), AllocError>
     requires within { number < length lines.now }
     requires room { HasRoomFor placing.old.builder lines.now number ends }
-    ensures text { IfOk result (λ _. placing.new.builder.text ≡ placing.old.builder.text) }
-    ensures goes_on { IfOk result (λ _. GoesOn placing.old.builder placing.new.builder
+    ensures appends { IfOk result (λ _. Appends placing.old.builder placing.new.builder
         (option_map_or (λ line. line.next) (slice_get lines.now number) 0)) }
-    ensures texts { IfOk result (λ _. HasMoreTexts placing.old.builder placing.new.builder) }
-    ensures over { IfOk result (λ _. placing.old.builder.run ≡ None → number + 1 < length lines.now
-        → placing.new.builder.run ≡ None) }
-    ensures left { IfOk result (λ _. (sources : List SourceLine) (all : List (Forest Shown))
-        → AreTextLines placing.old.builder.text lines.now sources
-        → IsLeft (record { text = placing.old.builder.text; syntax = syntax }) ends
-        (drop number sources) placing.old.builder.levels all → placing.old.builder.run ≡ None
-        → IsLeft (record { text = placing.old.builder.text; syntax = syntax })
-        (record ends { task = None }) (drop (number + 1) sources) placing.new.builder.levels all) }
+    ensures left { IfOk result (λ _. (s : Source) (sources : List SourceLine)
+        (all : List (Forest Shown))
+        → s ≡ record { text = placing.old.builder.text; syntax = syntax }
+        → AreTextLines s.text lines.now sources
+        → IsLeft s ends (drop number sources) placing.old.builder all
+        → IsLeft s (record ends { task = None }) (drop (number + 1) sources)
+        placing.new.builder all) }
 {
     let line = begin_line(placing, lines[number], ends.task)?;
     if number == lines.len() - 1 {
@@ -324,10 +297,8 @@ fn add_lines(
     syntax: Syntax,
 ) -> Result<(), AllocError>
     requires { HasRoomFor placing.old.builder lines.now from ends }
-    ensures text { IfOk result (λ _. placing.new.builder.text ≡ placing.old.builder.text) }
-    ensures goes_on { IfOk result (λ _. from < length lines.now
-        → GoesOn placing.old.builder placing.new.builder (lines_end lines.now)) }
-    ensures texts { IfOk result (λ _. HasMoreTexts placing.old.builder placing.new.builder) }
+    ensures appends { IfOk result (λ _. from < length lines.now
+        → Appends placing.old.builder placing.new.builder (lines_end lines.now)) }
     ensures items { IfOk result (λ _. (sources : List SourceLine)
         → AreTextLines placing.old.builder.text lines.now sources
         → HaveEnds (drop from sources) ends → placing.old.builder.run ≡ None
@@ -352,6 +323,19 @@ fn is_item_in(block: OpenBlock, line: Line) -> bool
     }
 }
 
+/// Returns the byte offset after a paragraph, or after the underline of the heading that it is.
+fn paragraph_end(lines: &[HeldLine], heading: Option<(HeadingLevel, Line)>) -> usize
+    ensures { result ≡ paragraph_end lines.now heading }
+{
+    match heading {
+        Some((_, underline)) => underline.next,
+        None => match lines.last() {
+            Some(last) => last.next,
+            None => 0,
+        },
+    }
+}
+
 /// Opens a paragraph, or the heading that it turned out to be.
 fn open_text(
     alloc: Global,
@@ -360,7 +344,6 @@ fn open_text(
     braces: Option<Braces>,
 ) -> Result<(), AllocError>
     requires { placing.old.builder.leaf ≡ false }
-    ensures text { IfOk result (λ _. placing.new.builder.text ≡ placing.old.builder.text) }
     ensures opens { IfOk result (λ _.
         MatchOption heading (Opens placing.old.builder placing.new.builder body.Paragraph)
         (λ h. OpensHeading placing.old.builder placing.new.builder h.0)) }
@@ -395,74 +378,7 @@ impl<'a> Pass<'a> {
     #[inline(always)]
     pub fn add_text(&mut self, line: Line, start: usize, depth: usize) -> Result<(), AllocError>
         requires { MayMakeRoom self.old depth }
-        ensures text { IfOk result (λ _. self.new.placing.builder.text
-            ≡ self.old.placing.builder.text) }
-        ensures goes_on { has_paragraph self.old ≡ true
-            → self.new ≡ record self.old { lines = self.new.lines } }
-        ensures begins { IfOk result (λ _. has_paragraph self.old ≡ false
-            → self.new.placing.builder.blocks
-            ≡ room_in depth (without_leaf self.old.placing.builder)) }
-        ensures outside { IfOk result (λ _. has_paragraph self.old ≡ false
-            → self.new.placing.builder.leaf ≡ false) }
-        ensures task { IfOk result (λ _. has_paragraph self.old ≡ false
-            → self.new.task ≡ task_at self.new line start) }
-        ensures untried { IfOk result (λ _. has_paragraph self.old ≡ false
-            → self.new.tried ≡ false) }
-        ensures tables { IfOk result (λ _. self.new.tables ≡ self.old.tables) }
-        ensures line { IfOk result (λ _. self.new.lines.items
-            ≡ (if has_paragraph self.old then self.old.lines.items else [])
-            ++ record { start = start; stop = line.stop; next = line.next; owed = 0 } ∷ []) }
-        ensures inside { IfOk result (λ _. (s : Source) (frames : List Frame)
-            → MayOpen s self.old frames nil → depth ≡ length frames
-            → IsLooseAs self.old.looseness frames nil
-            → (self.new ≡ record self.old {
-              lines = self.new.lines;
-              task = self.new.task;
-              tried = self.new.tried;
-              looseness = self.new.looseness;
-            })
-            × IsLooseBefore self.new.looseness frames nil) }
-        ensures forgets { IfOk result (λ _. (s : Source) (frames : List Frame)
-            (inside : Forest Block) → self.old.lines.items ≡ [] → depth ≤ length frames
-            → MayClose s self.old frames inside
-            → StandsFor s self.new (take (room_depth depth frames) frames)
-            (rebuilt (drop (room_depth depth frames) frames) inside)) }
-        ensures finishes { IfOk result (λ _. (s : Source) (frames : List Frame)
-            (inside : Forest Block) (b : Block) → self.old.lines.items ≡ [] → depth ≤ length frames
-            → MayEnd s self.old frames inside b None
-            → StandsFor s self.new (take (room_depth depth frames) frames)
-            (rebuilt (drop (room_depth depth frames) frames) (followed_by inside (leaf_block b)))) }
-        ensures first { IfOk result (λ _. has_paragraph self.old ≡ false → (s : Source)
-            (frames : List Frame) (inside : Forest Block) (b : Block) (source : SourceLine)
-            → IsBuilt s self.new.placing.builder frames inside → s.syntax ≡ self.old.syntax
-            → BeginsText self.new.placing.builder.text
-            (record { start = start; stop = line.stop; next = line.next; owed = 0 }) source b
-            → AreItemsOpenedIn line frames
-            → HoldsParagraph s self.new frames inside b (source ∷ [])) }
-        ensures further { IfOk result (λ _. (s : Source) (frames : List Frame)
-            (inside : Forest Block) (b : Block) (sources : List SourceLine) (source : SourceLine)
-            → HoldsParagraph s self.old frames inside b sources
-            → ComesAfter self.old.placing.builder.text self.old.lines.items
-            (record { start = start; stop = line.stop; next = line.next; owed = 0 }) source
-            → HoldsParagraph s self.new frames inside (record b {
-              last = source.next;
-              kind = paragraph_leaf (sources ++ source ∷ []);
-            }) (sources ++ source ∷ [])) }
-        ensures loose { IfOk result (λ _. has_paragraph self.old ≡ false
-            → (texts : List (List ℕ)) (frames : List Frame) (inside : Forest Block)
-            → AreOpen texts (without_leaf self.old.placing.builder) frames → AreNested frames
-            → IsLooseAs self.old.looseness frames inside → depth ≤ length frames
-            → (is_nil (rebuilt (drop (room_depth depth frames) frames) inside) ≡ false
-            → BlanksKnown self.old.looseness.blank_from 0 frames inside)
-            → IsLooseBefore self.new.looseness (take (room_depth depth frames) frames)
-            (rebuilt (drop (room_depth depth frames) frames) inside)) }
-        ensures syntax { self.new.syntax ≡ self.old.syntax }
-        ensures unheld { IfOk result (λ _. self.old.blanks.items ≡ []
-            → self.new.blanks.items ≡ []) }
-        ensures dropped { IfOk result (λ _. self.old.placing.builder.leaf ≡ true
-            → self.new.blanks.items ≡ []) }
-        ensures here { IfOk result (λ _. has_paragraph self.old ≡ false → IsClosable self.old
-            → AreClosable self.new.placing.builder self.old.placed) }
+        ensures { IfOk result (λ _. AddsText self.old self.new line start depth) }
     {
         if !self.has_paragraph() {
             self.make_room(depth)?;
@@ -479,8 +395,15 @@ impl<'a> Pass<'a> {
         Ok(())
     }
 
+    /// Returns the task marker before the lines from the number `from` on: only the first of all may begin with one.
+    fn task_left(&self, from: usize) -> Option<bool>
+        ensures { result ≡ task_left self.now from }
+    {
+        if from == 0 { self.task } else { None }
+    }
+
     /// Returns the braces at the end of the last line, where it is that of a heading and attributes are read.
-    #[tactic(auto, using(crate::proofs::ParagraphBracesLemmas::braces_stand))]
+    #[tactic(auto, using(crate::proofs::ParagraphTreesLemmas::braces_stand))]
     fn last_braces(&self, heading: Option<(HeadingLevel, Line)>) -> Option<Braces>
         ensures stand { BracesStand self.now.placing.builder.text result }
         ensures value { (sources : List SourceLine) (from : ℕ)
@@ -517,35 +440,22 @@ impl<'a> Pass<'a> {
         heading: Option<(HeadingLevel, Line)>,
     ) -> Result<(), AllocError>
         requires { IsPlaceable self.old from heading }
-        ensures text { IfOk result (λ _. self.new.placing.builder.text
-            ≡ self.old.placing.builder.text) }
-        ensures placed { IfOk result (λ _. from < length self.old.lines.items
-            → IsPlacedTo self.old.placing.builder self.new.placing.builder
-            (paragraph_end self.old.lines.items heading)) }
+        ensures placed { IfOk result (λ _. IsPlacedTo self.old.placing.builder
+            self.new.placing.builder (paragraph_end self.old.lines.items heading)) }
         ensures texts { IfOk result (λ _. HasMoreTexts self.old.placing.builder
             self.new.placing.builder) }
-        ensures tree { IfOk result (λ _. (sources : List SourceLine) (marked : ℕ) (b : Block)
-            → AreTextLines self.old.placing.builder.text self.old.lines.items sources
-            → from < length self.old.lines.items → AreSome (drop from sources)
-            → (if from == 0 then self.old.task else None)
-            ≡ first_task (source_of self.old) marked (drop from sources)
-            → b.last ≡ paragraph_end self.old.lines.items heading
-            → HasTrees self.old.placing.builder self.new.placing.builder
-            (shown_ended (source_of self.old) marked b heading (drop from sources))) }
+        ensures tree { IfOk result (λ _. PlacesLines self.old from heading
+            self.new.placing.builder) }
         ensures same { self.new ≡ record self.old { placing = self.new.placing } }
     {
-        if let Some(first) = self.lines.get(from) {
-            self.placing.step_to(first.start);
-        }
+        self.placing.step_to(self.lines[from].start);
         let ends = Ends {
-            task: if from == 0 { self.task } else { None },
+            task: self.task_left(from),
             braces: self.last_braces(heading),
         };
         open_text(self.alloc, &mut self.placing, heading, ends.braces)?;
         add_lines(&mut self.placing, &self.lines, from, ends, self.syntax)?;
-        if let Some((_, underline)) = heading {
-            self.placing.step_to(underline.next);
-        }
+        self.placing.step_to(paragraph_end(&self.lines, heading));
         self.placing.close();
         Ok(())
     }
@@ -556,30 +466,9 @@ impl<'a> Pass<'a> {
         &mut self,
         heading: Option<(HeadingLevel, Line)>,
     ) -> Result<bool, AllocError>
-        requires outside { self.old.placing.builder.leaf ≡ false }
-        requires ahead { AreAhead self.old.placing.builder self.old.lines.items }
-        requires task { HaveTask self.old.placing.builder.text self.old.task self.old.lines.items }
-        requires heading { EndsHeading self.old.placing.builder.text self.old.lines.items heading }
-        ensures text { IfOk result (λ _. self.new.placing.builder.text
-            ≡ self.old.placing.builder.text) }
-        ensures ends { IfOk result (λ left. left ≡ true
-            → IsPlacedTo
-            (record self.old.placing.builder { definitions = self.new.placing.builder.definitions })
-            self.new.placing.builder (paragraph_end self.old.lines.items heading)) }
-        ensures defines { IfOk result (λ left. left ≡ false
-            → self.new.placing.builder
-            ≡ defining self.old.placing.builder self.new.placing.builder.definitions
-            self.new.placing.builder.at) }
-        ensures after { IfOk result (λ left. left ≡ false → 0 < length self.old.lines.items
-            → self.new.placing.builder.at ≡ lines_end self.old.lines.items) }
-        ensures tree { IfOk result (λ _. (sources : List SourceLine) (marked : ℕ) (b : Block)
-            → IsParagraph self.old.placing.builder.text self.old.lines.items sources
-            → self.old.task ≡ first_task (source_of self.old) marked sources
-            → EndsFrom marked sources
-            → b.last ≡ paragraph_end self.old.lines.items heading
-            → HasTrees self.old.placing.builder self.new.placing.builder
-            (shown_ended (source_of self.old) marked b heading
-            (divided_of self.old sources).lines)) }
+        requires { MayEndParagraph self.old heading }
+        ensures ends { IfOk result (λ left. EndsTo self.old.placing.builder
+            self.new.placing.builder (ended_at self.old left heading)) }
         ensures left { IfOk result (λ left. (sources : List SourceLine)
             → IsParagraph self.old.placing.builder.text self.old.lines.items sources
             → left ≡ not (length (divided_of self.old sources).lines == 0)) }
@@ -591,8 +480,6 @@ impl<'a> Pass<'a> {
         ensures emptied { IfOk result (λ _. self.new.lines.items ≡ []) }
         ensures same { self.new
             ≡ record self.old { placing = self.new.placing; lines = self.new.lines } }
-        ensures here { IfOk result (λ left. left ≡ false → IsClosable self.old
-            → has_paragraph self.old ≡ true → IsClosable self.new) }
     {
         let names = entity_names(self.syntax);
         let taken = take_definitions(self.alloc, &mut self.placing, &self.lines, names)?;

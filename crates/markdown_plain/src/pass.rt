@@ -1,27 +1,16 @@
 //! The state of the block pass between two lines, and the closing of blocks. Functions that return a `Result` fail only
 //! if an allocation fails.
-ghost use Rattle.std.specs.Prelude.{◌≡◌, ◌≤◌, List, [], ◌∷◌, ◌++◌, ◌&&◌, true, false, not, length, take};
-ghost use Rattle.std.specs.Prelude.{drop, max, IfOk, ℕ, Option};
+ghost use Rattle.std.specs.Prelude.{◌≡◌, ◌≤◌, [], ◌&&◌, false, not, length, IfOk, ℕ};
 ghost use Rattle.std.specs.Option.{option_map};
-ghost use Rattle.markdown_base.specs.Forest.{Forest, nil};
 ghost use Rattle.markdown_base.specs.declared.item.ItemBody.TheVariants as body;
-ghost use Rattle.markdown_block_rules.specs.BlockGrowth.{Block, is_nil};
-ghost use Rattle.markdown_builder.specs.BuilderView.{BuilderView, innermost_block, nothing_made};
-ghost use Rattle.markdown_base.specs.Source.{Source};
-ghost use Rattle.markdown_plain.specs.Closing.{MayClose, StandsFor, MayEnd};
-ghost use Rattle.markdown_plain.specs.Frames.{Frame, forgotten, rebuilt, room_depth, AreNested};
-ghost use Rattle.markdown_builder.specs.TreeLevels.{followed_by};
-ghost use Rattle.markdown_lines.specs.SourceLines.{SourceLine};
-ghost use Rattle.markdown_plain.specs.OpenLeaves.{IsPlaced, IsUnended, leaf_block};
+ghost use Rattle.markdown_base.specs.Source.{source_as};
+ghost use Rattle.markdown_builder.specs.BuilderView.{BuilderView, innermost_block};
+ghost use Rattle.markdown_plain.specs.Closable.{AreClosable, MayCloseDown, MayEndLeaf, MayMakeRoom};
 ghost use Rattle.markdown_plain.specs.Fitting.{HasBody, PutsBlock, closed};
-ghost use Rattle.markdown_plain.specs.OpenedFrames.{MayOpen};
-ghost use Rattle.markdown_plain.specs.OpenBlocks.{has_leaf, innermost_is, is_list, room_in};
-ghost use Rattle.markdown_plain.specs.OpenBlocks.{without_leaf};
-ghost use Rattle.markdown_plain.specs.Closable.{AreClosable, IsClosable};
-ghost use Rattle.markdown_plain.specs.Closable.{MayCloseDown, MayEndLeaf, MayMakeRoom};
-ghost use Rattle.markdown_plain.specs.Containers.{closing_place};
+ghost use Rattle.markdown_plain.specs.OpenBlocks.{has_leaf, innermost_is, is_list, without_leaf};
 ghost use Rattle.markdown_plain.specs.Paragraphs.{has_paragraph};
-ghost use Rattle.markdown_plain.specs.Settled.{AreOpen, BlanksKnown, IsLooseAs, IsLooseBefore};
+ghost use Rattle.markdown_plain.specs.PassSteps.{ClosesBlock, ClosesDown, MakesRoom};
+ghost use Rattle.markdown_plain.specs.Readable.{HasNothing};
 
 use crate::looseness::Looseness;
 use crate::placing::Placing;
@@ -73,14 +62,7 @@ pub struct Pass<'a> {
 impl<'a> Pass<'a> {
     /// Returns the state in which nothing is read yet.
     pub fn new(alloc: Global, text: &'a str, syntax: Syntax) -> Result<Pass<'a>, AllocError>
-        ensures made { IfOk result (λ made. made.placing.builder ≡ nothing_made text.now) }
-        ensures syntax { IfOk result (λ made. made.syntax ≡ syntax) }
-        ensures lines { IfOk result (λ made. made.lines.items ≡ []) }
-        ensures blanks { IfOk result (λ made. made.blanks.items ≡ []) }
-        ensures lists { IfOk result (λ made. made.looseness.lists.items ≡ []) }
-        ensures placed { IfOk result (λ made. made.placed ≡ 0) }
-        ensures added { IfOk result (λ made. made.tables.added ≡ 0) }
-        ensures most { IfOk result (λ made. made.tables.most ≡ max (length text.now) 1000) }
+        ensures { IfOk result (λ made. HasNothing (source_as syntax text.now) made) }
     {
         let old = syntax.old_footnotes;
         Ok(Pass {
@@ -140,31 +122,7 @@ impl<'a> Pass<'a> {
     pub fn close_block(&mut self)
         requires closable { AreClosable self.old.placing.builder self.old.placed }
         requires some { self.old.placing.builder.blocks ≡ [] → ⊥ }
-        ensures text { self.new.placing.builder.text ≡ self.old.placing.builder.text }
-        ensures closes { self.new.placing.builder
-            ≡ record (closed self.old.placing.builder self.new.placing.builder.levels)
-            { at = closing_place self.old } }
-        ensures same { self.new
-            ≡ record self.old { placing = self.new.placing; looseness = self.new.looseness } }
-        ensures looseness { self.new.looseness ≡ record self.old.looseness {
-          lists = self.new.looseness.lists;
-          item_is_empty = self.new.looseness.item_is_empty;
-        } }
-        ensures stands { self.new.looseness.item_is_empty
-            ≡ (not (innermost_is is_list self.old.placing.builder.blocks)
-            && self.old.looseness.item_is_empty) }
-        ensures forgets { (s : Source) (frames : List Frame) (f : Frame) (inside : Forest Block)
-            → MayClose s self.old (frames ++ f ∷ []) inside
-            → MayClose s self.new frames (forgotten f inside) }
-        ensures loose { (texts : List (List ℕ)) (frames : List Frame) (f : Frame)
-            (inside : Forest Block)
-            → AreOpen texts self.old.placing.builder.blocks (frames ++ f ∷ [])
-            → AreNested (frames ++ f ∷ [])
-            → IsLooseAs self.old.looseness (frames ++ f ∷ []) inside
-            → IsLooseAs self.new.looseness frames (forgotten f inside) }
-        ensures here { AreClosable self.old.placing.builder self.old.placed
-            → (self.old.placing.builder.blocks ≡ [] → ⊥)
-            → AreClosable self.new.placing.builder self.old.placed }
+        ensures { ClosesBlock self.old self.new }
     {
         match innermost(&self.placing) {
             Some(ItemBody::List(_, character, first)) => {
@@ -183,45 +141,7 @@ impl<'a> Pass<'a> {
     #[inline(always)]
     pub fn close_down(&mut self, depth: usize) -> Result<(), AllocError>
         requires { MayCloseDown self.old depth }
-        ensures text { IfOk result (λ _. self.new.placing.builder.text
-            ≡ self.old.placing.builder.text) }
-        ensures kept { IfOk result (λ _. has_leaf self.old.placing.builder ≡ false
-            → self.old.lines.items ≡ [] → length self.old.placing.builder.blocks ≤ depth
-            → self.new ≡ self.old) }
-        ensures closes { IfOk result (λ _. self.new.placing.builder.blocks
-            ≡ take depth (without_leaf self.old.placing.builder)) }
-        ensures outside { IfOk result (λ _. self.new.placing.builder.leaf ≡ false) }
-        ensures ended { IfOk result (λ _. self.new.lines.items ≡ []) }
-        ensures dropped { IfOk result (λ _. self.old.placing.builder.leaf ≡ true
-            → self.new.blanks.items ≡ []) }
-        ensures unheld { IfOk result (λ _. self.old.blanks.items ≡ []
-            → self.new.blanks.items ≡ []) }
-        ensures same { self.new ≡ record self.old {
-          placing = self.new.placing;
-          lines = self.new.lines;
-          blanks = self.new.blanks;
-          looseness = self.new.looseness;
-        } }
-        ensures looseness { self.new.looseness ≡ record self.old.looseness {
-          lists = self.new.looseness.lists;
-          item_is_empty = self.new.looseness.item_is_empty;
-        } }
-        ensures forgets { IfOk result (λ _. (s : Source) (frames : List Frame)
-            (inside : Forest Block) → self.old.lines.items ≡ []
-            → MayClose s self.old frames inside → MayClose s self.new (take depth frames)
-            (rebuilt (drop depth frames) inside)) }
-        ensures loose { IfOk result (λ _. (texts : List (List ℕ)) (frames : List Frame)
-            (inside : Forest Block) → AreOpen texts (without_leaf self.old.placing.builder) frames
-            → AreNested frames → IsLooseAs self.old.looseness frames inside
-            → IsLooseAs self.new.looseness (take depth frames) (rebuilt (drop depth frames)
-            inside)) }
-        ensures finishes { IfOk result (λ _. (s : Source) (frames : List Frame)
-            (inside : Forest Block) (b : Block) (held : Option (List SourceLine))
-            → MayEnd s self.old frames inside b held
-            → MayClose s self.new (take depth frames) (rebuilt (drop depth frames)
-            (followed_by inside (leaf_block b)))) }
-        ensures here { IfOk result (λ _. IsClosable self.old
-            → AreClosable self.new.placing.builder self.old.placed) }
+        ensures { IfOk result (λ _. ClosesDown self.old self.new depth) }
     {
         self.end_leaf()?;
         'blocks: for _closed in depth..self.depth() {
@@ -234,52 +154,7 @@ impl<'a> Pass<'a> {
     /// `depth`, and also closes the innermost of these if it is a list.
     pub fn make_room(&mut self, depth: usize) -> Result<(), AllocError>
         requires { MayMakeRoom self.old depth }
-        ensures text { IfOk result (λ _. self.new.placing.builder.text
-            ≡ self.old.placing.builder.text) }
-        ensures closes { IfOk result (λ _. self.new.placing.builder.blocks
-            ≡ room_in depth (without_leaf self.old.placing.builder)) }
-        ensures outside { IfOk result (λ _. self.new.placing.builder.leaf ≡ false) }
-        ensures ended { IfOk result (λ _. self.new.lines.items ≡ []) }
-        ensures dropped { IfOk result (λ _. self.old.placing.builder.leaf ≡ true
-            → self.new.blanks.items ≡ []) }
-        ensures unheld { IfOk result (λ _. self.old.blanks.items ≡ []
-            → self.new.blanks.items ≡ []) }
-        ensures same { self.new ≡ record self.old {
-          placing = self.new.placing;
-          lines = self.new.lines;
-          blanks = self.new.blanks;
-          looseness = self.new.looseness;
-        } }
-        ensures looseness { IfOk result (λ _. self.new.looseness
-            ≡ record self.old.looseness {
-              lists = self.new.looseness.lists;
-              item_is_empty = false;
-            }) }
-        ensures forgets { IfOk result (λ _. (s : Source) (frames : List Frame)
-            (inside : Forest Block) → self.old.lines.items ≡ [] → depth ≤ length frames
-            → MayClose s self.old frames inside
-            → StandsFor s self.new (take (room_depth depth frames) frames)
-            (rebuilt (drop (room_depth depth frames) frames) inside)) }
-        ensures loose { IfOk result (λ _. (texts : List (List ℕ)) (frames : List Frame)
-            (inside : Forest Block) → AreOpen texts (without_leaf self.old.placing.builder) frames
-            → AreNested frames → IsLooseAs self.old.looseness frames inside
-            → depth ≤ length frames
-            → (is_nil (rebuilt (drop (room_depth depth frames) frames) inside) ≡ false
-            → BlanksKnown self.old.looseness.blank_from 0 frames inside)
-            → IsLooseBefore self.new.looseness (take (room_depth depth frames) frames)
-            (rebuilt (drop (room_depth depth frames) frames) inside)) }
-        ensures inside { IfOk result (λ _. (s : Source) (frames : List Frame)
-            → MayOpen s self.old frames nil → depth ≡ length frames
-            → IsLooseAs self.old.looseness frames nil
-            → (self.new ≡ record self.old { looseness = self.new.looseness })
-            × IsLooseBefore self.new.looseness frames nil) }
-        ensures finishes { IfOk result (λ _. (s : Source) (frames : List Frame)
-            (inside : Forest Block) (b : Block) (held : Option (List SourceLine))
-            → depth ≤ length frames → MayEnd s self.old frames inside b held
-            → StandsFor s self.new (take (room_depth depth frames) frames)
-            (rebuilt (drop (room_depth depth frames) frames) (followed_by inside (leaf_block b)))) }
-        ensures here { IfOk result (λ _. IsClosable self.old
-            → AreClosable self.new.placing.builder self.old.placed) }
+        ensures { IfOk result (λ _. MakesRoom self.old self.new depth) }
     {
         self.close_down(depth)?;
         if self.is_in_list() {
@@ -295,28 +170,9 @@ impl<'a> Pass<'a> {
     #[inline(always)]
     pub fn end_leaf(&mut self) -> Result<(), AllocError>
         requires { MayEndLeaf self.old }
-        ensures text { IfOk result (λ _. self.new.placing.builder.text
-            ≡ self.old.placing.builder.text) }
-        ensures ends { IfOk result (λ _. self.new.placing.builder.blocks
-            ≡ without_leaf self.old.placing.builder) }
-        ensures ended { IfOk result (λ _. self.new.lines.items ≡ []) }
-        ensures dropped { IfOk result (λ _. self.old.placing.builder.leaf ≡ true
-            → self.new.blanks.items ≡ []) }
-        ensures unheld { IfOk result (λ _. self.old.blanks.items ≡ []
-            → self.new.blanks.items ≡ []) }
-        ensures frame { IfOk result (λ _. (s : Source) (frames : List Frame)
-            (inside : Forest Block) (b : Block) (held : Option (List SourceLine))
-            → IsUnended s self.old frames inside b held → s.syntax ≡ self.old.syntax
-            → IsPlaced s self.new.placing.builder frames (followed_by inside (leaf_block b))) }
-        ensures none { IfOk result (λ _. has_leaf self.old.placing.builder ≡ false
-            → self.old.lines.items ≡ [] → self.new ≡ self.old) }
-        ensures same { self.new ≡ record self.old {
-          placing = self.new.placing;
-          lines = self.new.lines;
-          blanks = self.new.blanks;
-        } }
-        ensures here { IfOk result (λ _. IsClosable self.old
-            → AreClosable self.new.placing.builder self.old.placed) }
+        ensures { IfOk result (λ _. (depth : ℕ)
+            → length (without_leaf self.old.placing.builder) ≤ depth
+            → ClosesDown self.old self.new depth) }
     {
         if self.has_leaf() {
             self.lines.clear();

@@ -1,41 +1,34 @@
 //! Tables: how one begins at its delimiter row, and its rows. Functions that return a `Result` fail only where memory is
 //! refused.
-ghost use Rattle.std.specs.Prelude.{◌≡◌, ◌≤◌, ◌<◌, ◌+◌, ◌-◌, ◌==◌, ◌&&◌, ◌||◌, ◌++◌, ◌∷◌, [], ℕ, None, Some, List};
+ghost use Rattle.std.specs.Prelude.{◌≡◌, ◌≤◌, ◌<◌, ◌+◌, ◌-◌, ◌==◌, ◌&&◌, ◌||◌, ◌∷◌, [], ℕ, None, Some, List};
 ghost use Rattle.std.specs.Prelude.{false, true, not, length, min, slice_get, take, IfOk};
 ghost use Rattle.std.specs.Option.{is_some, option_map};
 ghost use Rattle.markdown_builder.specs.Bodies.{is_leaf, is_plain_block};
 ghost use Rattle.markdown_builder.specs.EvenRows.{is_table_row, open_columns};
-ghost use Rattle.markdown_plain.specs.Readable.{MayGoOn};
 ghost use Rattle.markdown_plain.specs.Fitting.{GoesOn};
-ghost use Rattle.markdown_items.specs.ContentItems.{AddsItems};
 ghost use Rattle.markdown_items.specs.LineItems.{item_syntax};
 ghost use Rattle.markdown_base.specs.Source.{Source};
 ghost use Rattle.markdown_lines.specs.SourceLines.{SourceLine};
 ghost use Rattle.markdown_lines.specs.TableRows.{delimiter_row_at, row_cells_at};
-ghost use Rattle.markdown_block_rules.specs.BlockRules.{empty_cells, shown_cells, shown_row};
+ghost use Rattle.markdown_block_rules.specs.BlockRules.{empty_cells, shown_cells};
 ghost use Rattle.markdown_block_rules.specs.LineContents.{cell_items};
-ghost use Rattle.markdown_block_rules.specs.TableLines as rules;
 ghost use Rattle.markdown_block_rules.specs.TableLines.{fitting, may_be_head};
-ghost use Rattle.markdown_plain.specs.Closable.{AreAhead, HaveTask, IsInText, IsLeafOpen};
-ghost use Rattle.markdown_plain.specs.Frames.{Frame};
+ghost use Rattle.markdown_plain.specs.Closable.{AreAhead, HaveTask, IsLeafOpen};
 ghost use Rattle.markdown_plain.specs.HeldSources.{IsParagraph, IsTextLine};
-ghost use Rattle.markdown_plain.specs.LeafTrees.{HasItems, HasMoreTexts, HasTrees};
-ghost use Rattle.markdown_plain.specs.OpenLeaves.{HoldsParagraph, IsOpenIn};
-ghost use Rattle.markdown_plain.specs.Paragraphs.{IsPlacedTo, divided_of, lines_end, source_of};
-ghost use Rattle.markdown_plain.specs.TableHeads.{HasTable, IsLastLine, IsNearRow, IsRowRest, before_table};
-ghost use Rattle.markdown_plain.specs.TableHeads.{begun_table, last_of};
+ghost use Rattle.markdown_plain.specs.LeafTrees.{HasItems, HasMoreTexts};
+ghost use Rattle.markdown_plain.specs.Paragraphs.{divided_of};
+ghost use Rattle.markdown_plain.specs.TableHeads.{BeginsNoTable, BeginsTable, IsLastLine, IsNearRow};
+ghost use Rattle.markdown_plain.specs.TableHeads.{MayBeginTable, TurnsToTable, last_of};
 ghost use Rattle.markdown_plain.specs.TextLines.{held_line};
-ghost use Rattle.markdown_base.specs.declared.item.ItemBody.TheVariants as body;
 ghost use Rattle.markdown_plain.specs.OpenBlocks.{innermost_is, is_table};
-ghost use Rattle.markdown_plain.specs.TableRows.{IsCellIn, IsCounted, IsOnePiece, MayAddCell, MayAddRow, PutsTree};
-ghost use Rattle.markdown_plain.specs.TableRows.{is_text_start, may_be_row};
-ghost use Rattle.markdown_base.specs.Forest.{Forest};
-ghost use Rattle.markdown_block_rules.specs.BlockGrowth.{Block, with_next_line};
-ghost use Rattle.markdown_lines.specs.SourceLines.{is_blank_rest};
+ghost use Rattle.markdown_plain.specs.TableRows.{AddsRow, IsCellIn, IsCounted, IsOnePiece, MayAddCell, MayAddRow};
+ghost use Rattle.markdown_plain.specs.TableRows.{PutsTrees, is_text_start, line_row, may_be_row};
+ghost use Rattle.markdown_block_rules.specs.BlockGrowth.{with_next_line};
 ghost use Rattle.markdown_plain.specs.ReachedLines as lines;
-ghost use Rattle.markdown_plain.specs.ReachedLines.{GoesOffAs, IsReachedBy, blocks_before, reached_of};
+ghost use Rattle.markdown_plain.specs.ReachedLines.{GoesOffAs, blocks_before};
+ghost use Rattle.markdown_plain.specs.Readable.{LastGoesOff, LastGoesOn};
+ghost use Rattle.markdown_plain.specs.ReachedTables.{MayReadRow, ReachesTable};
 ghost use Rattle.markdown_plain.specs.Standing.{PlacesFor};
-ghost use Rattle.std.specs.Str.{IsCharBoundary};
 
 use crate::containers::{Reached, reach};
 use crate::paragraph::are_definitions;
@@ -71,15 +64,12 @@ fn add_cell_items(
     requires inside { IsLeafOpen placing.old.builder }
     requires ahead { placing.old.builder.at ≤ cell.from }
     requires cell { IsCellIn placing.old.builder.text cell }
-    ensures text { IfOk result (λ _. placing.new.builder.text ≡ placing.old.builder.text) }
     ensures goes_on { IfOk result (λ _. GoesOn placing.old.builder placing.new.builder
         placing.new.builder.at) }
-    ensures inside { IfOk result (λ _. AddsItems placing.old.builder placing.new.builder) }
     ensures texts { IfOk result (λ _. HasMoreTexts placing.old.builder placing.new.builder) }
     ensures items { IfOk result (λ _. (escapes ≡ false → IsOnePiece placing.old.builder.text cell)
-        → IsCellIn placing.old.builder.text cell → placing.old.builder.run ≡ None
-        → HasItems placing.old.builder placing.new.builder (cell_items placing.old.builder.text
-        (item_syntax syntax) cell.from cell.to)) }
+        → placing.old.builder.run ≡ None → HasItems placing.old.builder placing.new.builder
+        (cell_items placing.old.builder.text (item_syntax syntax) cell.from cell.to)) }
     ensures within { IfOk result (λ _. placing.new.builder.at ≤ cell.to) }
 {
     let mut from = cell.from;
@@ -107,13 +97,8 @@ fn place_cell(
 ) -> Result<(), AllocError>
     requires may { MayAddCell placing.old.builder cell.start }
     requires cell { IsCellIn placing.old.builder.text cell }
-    ensures text { IfOk result (λ _. placing.new.builder.text ≡ placing.old.builder.text) }
-    ensures placed { IfOk result (λ _. IsPlacedTo placing.old.builder placing.new.builder
-        cell.end) }
-    ensures texts { IfOk result (λ _. HasMoreTexts placing.old.builder placing.new.builder) }
-    ensures tree { IfOk result (λ _. PutsTree placing.old.builder placing.new.builder) }
-    ensures shown { IfOk result (λ _. (escapes ≡ false → IsOnePiece placing.old.builder.text cell)
-        → IsCellIn placing.old.builder.text cell → HasTrees placing.old.builder placing.new.builder
+    ensures { IfOk result (λ _. (escapes ≡ false → IsOnePiece placing.old.builder.text cell)
+        → PutsTrees placing.old.builder placing.new.builder cell.end
         (shown_cells (record { text = placing.old.builder.text; syntax = syntax }) (cell ∷ []))) }
 {
     placing.step_to(cell.start);
@@ -128,11 +113,7 @@ fn place_cell(
 #[tactic(auto, using(crate::proofs::OpenBlocksLemmas::outer_of_opened))]
 fn place_empty_cell(placing: &mut Placing<'_>, at: usize) -> Result<(), AllocError>
     requires { MayAddCell placing.old.builder at }
-    ensures text { IfOk result (λ _. placing.new.builder.text ≡ placing.old.builder.text) }
-    ensures placed { IfOk result (λ _. IsPlacedTo placing.old.builder placing.new.builder at) }
-    ensures texts { IfOk result (λ _. HasMoreTexts placing.old.builder placing.new.builder) }
-    ensures tree { IfOk result (λ _. PutsTree placing.old.builder placing.new.builder) }
-    ensures shown { IfOk result (λ _. HasTrees placing.old.builder placing.new.builder
+    ensures { IfOk result (λ _. PutsTrees placing.old.builder placing.new.builder at
         (empty_cells 1 at)) }
 {
     placing.step_to(at);
@@ -153,18 +134,12 @@ fn place_row(
     requires block { is_plain_block row ≡ true }
     requires outside { is_leaf row ≡ false }
     requires may { MayAddRow placing.old.builder line }
-    ensures text { IfOk result (λ _. placing.new.builder.text ≡ placing.old.builder.text) }
-    ensures placed { IfOk result (λ _. IsPlacedTo placing.old.builder placing.new.builder
-        line.next) }
-    ensures texts { IfOk result (λ _. HasMoreTexts placing.old.builder placing.new.builder) }
     ensures found { IfOk result (λ found. found ≡ min (open_columns placing.old.builder)
         (length (row_cells_at placing.old.builder.text line.start line.stop))) }
-    ensures tree { IfOk result (λ _. is_table_row row ≡ true
-        → IsInText placing.old.builder.text line → (source : SourceLine)
-        → IsTextLine placing.old.builder.text line source
-        → HasTrees placing.old.builder placing.new.builder
-        (shown_row (record { text = placing.old.builder.text; syntax = syntax })
-        (open_columns placing.old.builder) row source)) }
+    ensures puts { IfOk result (λ _. is_table_row row ≡ true
+        → PutsTrees placing.old.builder placing.new.builder line.next
+        (line_row (record { text = placing.old.builder.text; syntax = syntax })
+        (open_columns placing.old.builder) row line)) }
 {
     let text = placing.text();
     let columns = placing.builder.columns();
@@ -256,40 +231,11 @@ impl<'a> Pass<'a> {
     /// Makes the last line of the open paragraph the head of a table, if the rest of a line from a place on is the
     /// delimiter row for it, and returns whether it is. The lines before the head end as a paragraph.
     pub fn begin_table(&mut self, line: Line, position: Position) -> Result<bool, AllocError>
-        requires outside { self.old.placing.builder.leaf ≡ false }
-        requires ahead { AreAhead self.old.placing.builder self.old.lines.items }
-        requires task { HaveTask self.old.placing.builder.text self.old.task self.old.lines.items }
-        requires before { lines_end self.old.lines.items ≤ line.next }
-        requires next { IsCharBoundary self.old.placing.builder.text line.next }
-        ensures text { IfOk result (λ _. self.new.placing.builder.text
-            ≡ self.old.placing.builder.text) }
-        ensures value { IfOk result (λ is. (s : Source) (head : HeldLine)
-            (before : List SourceLine) (from l : SourceLine)
-            → IsLastLine s self.old head before from
-            → IsRowRest s self.old.placing.builder.text line position l
-            → is ≡ is_some (rules.alignments_for s l before from)) }
-        ensures tried { IfOk result (λ is. (s : Source) (head : HeldLine)
-            (before : List SourceLine) (from l : SourceLine)
-            → IsLastLine s self.old head before from
-            → IsRowRest s self.old.placing.builder.text line position l → is ≡ false
-            → self.new.tried
-            ≡ rules.hold_fitting s (before ++ from ∷ rules.further_line s l ∷ [])) }
-        ensures keeps { IfOk result (λ _. self.new ≡ record self.old {
-          placing = self.new.placing;
-          lines = self.new.lines;
-          tried = self.new.tried;
-        }) }
-        ensures ended { IfOk result (λ is. is ≡ true → self.new.lines.items ≡ []) }
-        ensures frame { IfOk result (λ is. is ≡ true → (s : Source) (frames : List Frame)
-            (inside : Forest Block) (b : Block) (head : HeldLine) (before : List SourceLine)
-            (from l : SourceLine)
-            → HoldsParagraph s self.old frames inside b (before ++ from ∷ [])
-            → IsLastLine s self.old head before from
-            → IsRowRest s self.old.placing.builder.text line position l
-            → AreAhead self.old.placing.builder self.old.lines.items
-            → HasTable s self.new.placing.builder frames inside b before from l line.next) }
-        ensures same { IfOk result (λ is. is ≡ false
-            → self.new ≡ record self.old { tried = self.new.tried }) }
+        requires { MayBeginTable self.old line }
+        ensures begins { IfOk result (λ is. is ≡ true
+            → BeginsTable self.old self.new line position) }
+        ensures none { IfOk result (λ is. is ≡ false
+            → BeginsNoTable self.old self.new line position) }
     {
         let text = self.placing.text();
         let space = read_space(text, position, line.stop, 4);
@@ -387,20 +333,8 @@ impl<'a> Pass<'a> {
         requires head { last_of self.old.lines.items ≡ Some head }
         requires ahead { AreAhead self.old.placing.builder self.old.lines.items }
         requires task { HaveTask self.old.placing.builder.text self.old.task self.old.lines.items }
-        ensures text { IfOk result (λ _. self.new.placing.builder.text
-            ≡ self.old.placing.builder.text) }
-        ensures same { self.new
-            ≡ record self.old { placing = self.new.placing; lines = self.new.lines } }
-        ensures ended { IfOk result (λ _. self.new.lines.items ≡ []) }
-        ensures frame { IfOk result (λ _. (s : Source) (frames : List Frame)
-            (inside : Forest Block) (b : Block) (before : List SourceLine) (from : SourceLine)
-            → HoldsParagraph s self.old frames inside b (before ++ from ∷ [])
-            → source_of self.old ≡ s → last_of self.old.lines.items ≡ Some head
-            → AreAhead self.old.placing.builder self.old.lines.items
-            → IsOpenIn s self.new.placing.builder frames (before_table inside b before) false
-            (begun_table from from.next alignments.items)) }
-        ensures here { IfOk result (λ _. (self.new.placing.builder.at ≡ head.next)
-            × (self.new.placing.builder.blocks ≡ [] → ⊥)) }
+        ensures { IfOk result (λ _.
+            TurnsToTable self.old self.new head.next alignments.items) }
     {
         let _head = self.lines.pop();
         if !self.lines.is_empty() {
@@ -420,37 +354,12 @@ impl<'a> Pass<'a> {
         reached: Reached,
         ahead: &mut LinesAhead<'a>,
     ) -> Result<bool, AllocError>
-        requires stop { IsCharBoundary ahead.old.text.now line.stop }
-        requires may { MayGoOn ahead.old.text.now self.old line reached }
-        requires filled { reached.content < line.stop }
-        requires table { innermost_is is_table self.old.placing.builder.blocks ≡ true }
-        ensures text { IfOk result (λ _. self.new.placing.builder.text
-            ≡ self.old.placing.builder.text) }
+        requires { MayReadRow ahead.old.text.now self.old line reached }
         ensures ahead { ahead.new.text.now ≡ ahead.old.text.now }
-        ensures places { IfOk result (λ is. is ≡ true → (s : Source) (before : lines.Before)
-            (source : SourceLine) → ahead.old.text.now ≡ s.text
-            → IsReachedBy s self.old line reached before source
-            → (reached_of s before source).inner ≡ []
-            → is_blank_rest (reached_of s before source).rest ≡ false
-            → innermost_is is_table self.old.placing.builder.blocks ≡ true
-            → IsCounted s self.old (blocks_before before)
-            → PlacesFor s self.new line.next (with_next_line s (blocks_before before) source)) }
-        ensures counted { IfOk result (λ is. is ≡ true → (s : Source) (before : lines.Before)
-            (source : SourceLine) → ahead.old.text.now ≡ s.text
-            → IsReachedBy s self.old line reached before source
-            → (reached_of s before source).inner ≡ []
-            → is_blank_rest (reached_of s before source).rest ≡ false
-            → innermost_is is_table self.old.placing.builder.blocks ≡ true
-            → IsCounted s self.old (blocks_before before)
-            → IsCounted s self.new (with_next_line s (blocks_before before) source)) }
-        ensures off { IfOk result (λ is. is ≡ false → (self.new ≡ self.old)
-            × ((s : Source) (before : lines.Before) (source : SourceLine)
-            → ahead.old.text.now ≡ s.text → IsReachedBy s self.old line reached before source
-            → (reached_of s before source).inner ≡ []
-            → is_blank_rest (reached_of s before source).rest ≡ false
-            → innermost_is is_table self.old.placing.builder.blocks ≡ true
-            → IsCounted s self.old (blocks_before before)
-            → GoesOffAs s self.old line reached before source)) }
+        ensures goes { IfOk result (λ is. is ≡ true
+            → LastGoesOn ahead.old.text.now self.old line reached self.new) }
+        ensures off { IfOk result (λ is. is ≡ false
+            → LastGoesOff ahead.old.text.now self.old line reached self.new) }
     {
         let mut reader = LineReader::new(self.alloc, ahead, self.syntax, line, false);
         let begun = reader.beginning(Position::new(reached.content), Before::Lazy)?;
@@ -466,27 +375,10 @@ impl<'a> Pass<'a> {
     #[inline(never)]
     pub fn add_row(&mut self, line: Line, start: usize) -> Result<bool, AllocError>
         requires { MayAddRow self.old.placing.builder (held_line line start) }
-        ensures text { IfOk result (λ _. self.new.placing.builder.text
-            ≡ self.old.placing.builder.text) }
         ensures value { IfOk result (λ added. added ≡ may_be_row self.old start line.stop) }
         ensures nothing { IfOk result (λ added. added ≡ false → self.new ≡ self.old) }
-        ensures same { IfOk result (λ _. self.new
-            ≡ record self.old { placing = self.new.placing; tables = self.new.tables }) }
-        ensures counts { IfOk result (λ added. added ≡ true → self.new.tables.added
-            ≡ self.old.tables.added + (open_columns self.old.placing.builder
-            - length (row_cells_at self.old.placing.builder.text start line.stop))) }
-        ensures most { IfOk result (λ _. self.new.tables.most ≡ self.old.tables.most) }
-        ensures placed { IfOk result (λ added. added ≡ true
-            → IsPlacedTo self.old.placing.builder self.new.placing.builder line.next) }
-        ensures texts { IfOk result (λ added. added ≡ true
-            → HasMoreTexts self.old.placing.builder self.new.placing.builder) }
-        ensures tree { IfOk result (λ added. added ≡ true
-            → IsInText self.old.placing.builder.text (held_line line start)
-            → (source : SourceLine)
-            → IsTextLine self.old.placing.builder.text (held_line line start) source
-            → HasTrees self.old.placing.builder self.new.placing.builder
-            (shown_row (source_of self.old) (open_columns self.old.placing.builder) body.TableRow
-            source)) }
+        ensures adds { IfOk result (λ added. added ≡ true
+            → AddsRow self.old self.new line start) }
     {
         if !self.may_be_row(start, line.stop) {
             return Ok(false);

@@ -1,5 +1,4 @@
 -- What was built is the block result of the text.
-use Rattle.std.proofs.Common.{refl}
 use Rattle.markdown_plain.proofs.BlockResultsLemmas.{result_of}
 use Rattle.markdown_plain.proofs.block_pass.blocks.Goals as goal
 
@@ -7,5 +6,5 @@ pub returns : goal.returns
 returns c =
     let made = c.in_ok-placing.ensures in
     let finished = c.finish.ensures in
-    result_of _ _ _ _ (made.made _ refl) finished.tree finished.parts made.text finished.formed finished.covered
+    result_of _ _ _ _ made.built finished.tree finished.parts made.built.text finished.formed finished.covered
     finished.tight finished.headings

@@ -6,8 +6,8 @@ use Rattle.markdown_block_rules.specs.BlockGrowth.{blocks_of}
 use Rattle.markdown_plain.specs.declared.placing.Placing.{Placing}
 use Rattle.markdown_plain.specs.Readable.{MayReadText}
 use Rattle.markdown_plain.specs.Settled.{IsBuilt}
-use Rattle.markdown_plain.proofs.WholeTextsLemmas.{HasNothing, none_open, nothing_counted, nothing_stands}
-use Rattle.markdown_plain.proofs.WholeTextsLemmas.{stepped_built}
+use Rattle.markdown_plain.proofs.WholeTextsLemmas.{nothing_counted, nothing_stands}
+use Rattle.markdown_plain.proofs.BegunLeavesLemmas.{built_at}
 use Rattle.markdown_plain.proofs.block_pass.place_all.Goals.{In_ok-pass}
 use Rattle.markdown_plain.proofs.block_pass.place_all.Goals as goal
 
@@ -15,24 +15,11 @@ use Rattle.markdown_plain.proofs.block_pass.place_all.Goals as goal
 abbrev asked : In_ok-pass → Source
 asked c = record { text = c.args.text.now; syntax = c.args.syntax }
 
-nothing_yet : (c : In_ok-pass) → HasNothing (asked c) c.in_ok-pass.pass
-nothing_yet c = record {
-  made = c.in_ok-pass.ensures.made;
-  syntax = c.in_ok-pass.ensures.syntax;
-  lines = c.in_ok-pass.ensures.lines;
-  blanks = c.in_ok-pass.ensures.blanks;
-  lists = c.in_ok-pass.ensures.lists;
-  placed = c.in_ok-pass.ensures.placed;
-  added = c.in_ok-pass.ensures.added;
-  most = c.in_ok-pass.ensures.most;
-  utf8 = c.utf8.text;
-}
-
 may_read : (c : In_ok-pass) → MayReadText c.in_ok-pass.pass
 may_read c = record {
   s = asked c;
-  stands = nothing_stands (asked c) c.in_ok-pass.pass (nothing_yet c);
-  counted = nothing_counted (asked c) c.in_ok-pass.pass (nothing_yet c);
+  stands = nothing_stands (asked c) c.in_ok-pass.pass c.in_ok-pass.ensures c.utf8.text;
+  counted = nothing_counted (asked c) c.in_ok-pass.pass c.in_ok-pass.ensures;
 }
 
 pub read_lines-requires : goal.read_lines-requires
@@ -43,7 +30,7 @@ pub step_to-requires : goal.step_to-requires
 step_to-requires c =
     let may = may_read (goal.at.step_to-requires c).In_ok-pass in
     let all = subst (λ (p : Placing). AllPass is_in_blank_line p.builder.text p.builder.at (length p.builder.text))
-    (sym c.into_placing-placing.ensures) (c.in_ok-read_lines.ensures.left may.s may.stands may.counted) in
+    (sym c.into_placing-placing.ensures) c.in_ok-read_lines.ensures.left in
     let end : length c.into_placing-placing.result.builder.text ≡ length c.as_bytes.result.now = search rules in
     record {
       ahead = (search rules, search rules);
@@ -55,17 +42,12 @@ step_to-requires c =
 all_made : (c : goal.After-step_to) (may : MayReadText c.in_ok-pass.pass)
     → IsBuilt may.s c.step_to.new.self.builder [] (blocks_of may.s)
 all_made c may =
-    let built = c.in_ok-read_lines.ensures.made may.s may.stands may.counted in
-    stepped_built may.s c.into_placing-placing.result.builder c.step_to.new.self.builder (search rules)
+    let built = c.in_ok-read_lines.ensures.built may in
+    built_at may.s c.into_placing-placing.result.builder c.step_to.new.self.builder
+    (length c.into_placing-placing.result.builder.text) [] (blocks_of may.s)
+    (search rules)
     (subst (λ (p : Placing). IsBuilt may.s p.builder [] (blocks_of may.s)) (sym c.into_placing-placing.ensures) built)
 
-pub returns-clause-made : goal.returns-clause-made
+pub returns-clause-built : goal.returns-clause-built
 unfolding may_read
-returns-clause-made c = λ s is.
-    subst (λ (s : Source). IsBuilt s c.step_to.new.self.builder [] (blocks_of s)) (sym is)
-    (all_made c (may_read (goal.at.returns-clause-made c).In_ok-pass))
-
-pub returns-clause-closed : goal.returns-clause-closed
-unfolding may_read
-returns-clause-closed c =
-    none_open _ c.step_to.new.self.builder (all_made c (may_read (goal.at.returns-clause-closed c).In_ok-pass))
+returns-clause-built c = all_made c (may_read (goal.at.returns-clause-built c).In_ok-pass)

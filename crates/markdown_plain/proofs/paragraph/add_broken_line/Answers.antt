@@ -1,5 +1,5 @@
 -- A line and the break after it are its items; there is none where nothing is left of it.
-use Rattle.std.proofs.Common.{◌≡◌, ◌∷◌, [], ◌∙◌, ℕ, List, ap, arith, refl, rules}
+use Rattle.std.proofs.Common.{◌≡◌, ◌∷◌, [], ◌∙◌, ℕ, List, ap, arith, rules}
 use Rattle.markdown_builder.specs.BuilderView.{BuilderView, with_items}
 use Rattle.std.proofs.lemmas.Result.{IfOk-weaker}
 use Rattle.markdown_builder.specs.Shown.{plain_item}
@@ -10,21 +10,28 @@ use Rattle.markdown_lines.specs.declared.held_line.HeldLine.{HeldLine}
 use Rattle.markdown_lines.specs.declared.line_break.LineBreak.{LineBreak}
 use Rattle.markdown_base.specs.Source.{Source}
 use Rattle.markdown_plain.proofs.ParagraphLinesLemmas.{empty_line, line_and_break}
-use Rattle.markdown_plain.proofs.LeafTreesLemmas.{no_text, texts_after}
 use Rattle.markdown_plain.specs.Closable.{IsInText}
-use Rattle.markdown_plain.specs.Fitting.{GoesOn}
 use Rattle.markdown_plain.proofs.ClosableLemmas.{IsBreakIn, ahead_of, break_in, inside_leaf, still_open}
 use Rattle.markdown_plain.proofs.FittingLemmas.{may_step}
-use Rattle.markdown_plain.proofs.ParagraphTreesLemmas.{goes_on_twice}
+use Rattle.markdown_plain.proofs.ParagraphTreesLemmas.{appends_twice, item_appends, step_appends}
 use Rattle.markdown_plain.proofs.paragraph.add_broken_line.Goals as goal
 
 pub returns-then-line-clause-items : goal.returns-then-line-clause-items
-returns-then-line-clause-items c = λ source is.
-    let stepped = c.step_to.ensures.steps in
-    let levels = c.args.placing.now.builder.levels in
-    λ run at. ap (λ (b : BuilderView). b.levels) stepped
-    ∙ empty_line levels (record { text = c.args.placing.now.builder.text; syntax = c.args.syntax }) c.args.line
-    source is c.if-line.true
+returns-then-line-clause-items c = λ source is run at.
+    let steps = c.step_to.ensures.steps in
+    record {
+      items = ap (λ (b : BuilderView). b.levels) steps ∙ empty_line c.args.placing.now.builder.levels
+          (record { text = c.args.placing.now.builder.text; syntax = c.args.syntax }) c.args.line source is
+          c.if-line.true;
+      over = ap (λ (b : BuilderView). b.run) steps ∙ run;
+    }
+
+pub returns-clause-appends : goal.returns-clause-appends
+returns-clause-appends c =
+    let read = c.in_ok-add_items.ensures in
+    IfOk-weaker c.add_inline.result _ _ (λ done appends. appends_twice (appends_twice
+    (record { goes_on = read.appends; texts = read.texts }) (step_appends c.step_to-2.ensures.steps))
+    (item_appends appends)) c.add_inline.ensures.appends
 
 pub returns-clause-items : goal.returns-clause-items
 returns-clause-items c =
@@ -40,40 +47,20 @@ returns-clause-items c =
     text (item_syntax c.args.syntax) n c.line_break-between.result.text_end)) at in
     let second : c.add_inline.new.self.builder.levels ≡ with_items c.add_items.new.self.builder.levels
     (plain_item c.line_break-between.result.start c.args.line.next c.line_break-between.result.body ∷ []) =
-    ap (λ (b : BuilderView). b.levels) appends
-    ∙ ap (λ (b : BuilderView). with_items b.levels
+    ap (λ (b : BuilderView). b.levels) appends ∙ ap (λ (b : BuilderView). with_items b.levels
     (plain_item b.at c.args.line.next c.line_break-between.result.body ∷ [])) stepped in
-    line_and_break c.args.placing.now.builder.levels c.add_items.new.self.builder.levels
-    c.add_inline.new.self.builder.levels s c.args.line source c.line_break-between.result is
-    (search rules) (search rules) (search rules) first second) c.add_inline.ensures.appends
-
-pub returns-then-line-clause-texts : goal.returns-then-line-clause-texts
-returns-then-line-clause-texts c =
-    let stepped = c.step_to.ensures.steps in
-    no_text _ _ (ap (λ (b : BuilderView). b.texts) stepped)
-
-pub returns-clause-texts : goal.returns-clause-texts
-returns-clause-texts c =
-    IfOk-weaker c.add_inline.result _ _ (λ done appends.
-    let stepped = c.step_to-2.ensures.steps in
-    let read = c.in_ok-add_items.ensures.texts in
-    texts_after _ _ _ read (no_text _ _ (ap (λ (b : BuilderView). b.texts) appends
-    ∙ ap (λ (b : BuilderView). b.texts) stepped))) c.add_inline.ensures.appends
+    record {
+      items = line_and_break c.args.placing.now.builder.levels c.add_items.new.self.builder.levels
+          c.add_inline.new.self.builder.levels s c.args.line source c.line_break-between.result is
+          (search rules) (search rules) (search rules) first second;
+      over = ap (λ (b : BuilderView). b.run) appends;
+    }) c.add_inline.ensures.appends
 
 pub step_to-requires : goal.step_to-requires
 step_to-requires c =
     let line = c.requires.line in
     may_step c.args.placing.now.builder c.args.line.next (omega (arith, c.requires.ahead, line.content, line.ending))
     line.next c.requires.inside.some
-
-pub returns-then-line-clause-text : goal.returns-then-line-clause-text
-returns-then-line-clause-text c = c.step_to.ensures.text
-
-pub returns-then-line-clause-goes_on : goal.returns-then-line-clause-goes_on
-returns-then-line-clause-goes_on c = rw c.step_to.ensures.steps
-
-pub returns-then-line-clause-over : goal.returns-then-line-clause-over
-returns-then-line-clause-over c = λ run. ap (λ (b : BuilderView). b.run) c.step_to.ensures.steps ∙ run
 
 pub line_break-between-requires : goal.line_break-between-requires
 line_break-between-requires c =
@@ -125,28 +112,3 @@ add_inline-requires c =
           (c.step_to-2.ensures.text ∙ ap (λ (b : BuilderView). b.text) read) (ap (λ (b : BuilderView). b.at) stepped)
           (omega (arith, between.high, line.ending)) line.next;
     }
-
-pub returns-clause-text : goal.returns-clause-text
-returns-clause-text c =
-    IfOk-weaker c.add_inline.result _ _ (λ done text.
-    let read = c.in_ok-add_items.ensures.text in
-    text ∙ (c.step_to-2.ensures.text ∙ read)) c.add_inline.ensures.text
-
-pub returns-clause-goes_on : goal.returns-clause-goes_on
-returns-clause-goes_on c =
-    let old = c.args.placing.now.builder in
-    let filled = c.add_items.new.self.builder in
-    let stepped = c.step_to-2.new.self.builder in
-    let end = c.line_break-between.result.text_end in
-    let start = c.line_break-between.result.start in
-    IfOk-weaker c.add_inline.result _ _ (λ done appends.
-    let read : GoesOn old filled end = c.in_ok-add_items.ensures.appends in
-    let broken : GoesOn filled stepped start = rw c.step_to-2.ensures.steps in
-    let placed : GoesOn stepped c.add_inline.new.self.builder c.args.line.next = rw appends in
-    goes_on_twice old stepped c.add_inline.new.self.builder start c.args.line.next c.args.line.next
-    (goes_on_twice old filled stepped end start start read broken refl) placed refl) c.add_inline.ensures.appends
-
-pub returns-clause-over : goal.returns-clause-over
-returns-clause-over c =
-    IfOk-weaker c.add_inline.result _ _ (λ done appends run. ap (λ (b : BuilderView). b.run) appends)
-    c.add_inline.ensures.appends

@@ -15,10 +15,8 @@ add_items-requires-clause-ahead c =
     let bytes = slice_range old.text line.start line.stop in
     let size : c.trimmed_length.result ≡ length bytes - suffix_len is_space_or_tab bytes = search rules in
     let cut = trimmed old.text line c.trimmed_length.result c.requires.line size in
-    let from = cut.low in
-    let low = c.requires.ahead in
     let end : c.saturating_add-end.result ≡ line.start + c.trimmed_length.result = search rules in
-    (omega (arith, low, end, from), subst (IsCharBoundary old.text) (sym end) cut.boundary)
+    (omega (arith, c.requires.ahead, end, cut.low), subst (IsCharBoundary old.text) (sym end) cut.boundary)
 
 -- the line ends after that
 pub step_to-requires : goal.step_to-requires

@@ -1,15 +1,17 @@
 -- A turn appends the next line, and what is left then are the lines behind it.
-use Rattle.std.proofs.Common.{◌≡◌, ◌+◌, sym, subst, rules, arith, None, false, drop}
-use Rattle.std.specs.Prelude.{◌==◌, if◌then◌else◌}
+use Rattle.std.proofs.Common.{◌≡◌, ◌+◌, ◌-◌, ◌∙◌, ap, sym, subst, arith, None, false, length}
+use Rattle.std.specs.Option.{option_map_or}
+use Rattle.std.specs.Prelude.{◌==◌, if◌then◌else◌, slice_get}
 use Rattle.std.proofs.lemmas.Bool.Decides.{nat_tests}
 use Rattle.markdown_plain.proofs.ParagraphLinesLemmas.{on_false}
-use Rattle.markdown_plain.proofs.ParagraphTreesLemmas.{as_many, got, left_of_same, none_behind, nothing_left}
-use Rattle.markdown_plain.specs.HeldSources.{AreTextLines}
+use Rattle.markdown_plain.proofs.DividedLemmas.{as_many}
+use Rattle.markdown_plain.proofs.ParagraphTreesLemmas.{appends_twice, got, none_behind, nothing_left}
 use Rattle.markdown_plain.proofs.paragraph.add_lines.Goals.{then-number-from, else-number-from}
-use Rattle.markdown_plain.proofs.LeafTreesLemmas.{texts_after}
+use Rattle.markdown_builder.specs.BuilderView.{BuilderView}
+use Rattle.markdown_plain.specs.ParagraphSteps.{Appends}
+use Rattle.markdown_plain.specs.Paragraphs.{end_of}
 use Rattle.markdown_lines.specs.declared.held_line.HeldLine.{HeldLine}
 use Rattle.markdown_plain.proofs.ClosableLemmas.{room_after}
-use Rattle.markdown_plain.specs.Closable.{HasRoomFor}
 use Rattle.markdown_plain.proofs.paragraph.add_lines.Goals as goal
 
 -- in place of a line that is not there
@@ -26,57 +28,35 @@ task_is c =
 
 pub lines-preserved : goal.lines-preserved
 lines-preserved c =
+    let ends = c.args.ends in
+    let first : (c.lines.number + 1 == c.args.from) ≡ false = grind (arith, nat_tests, c.lines.auto.number) in
+    let added = c.in_ok-add_line.ensures.appends in
+    let at = ap (λ (b : BuilderView). b.at) added.goes_on in
+    let last : c.lines.number ≡ (c.lines.number + 1) - 1 = omega arith in
     record {
-      text = search rules;
-      none = search rules;
-      goes_on = search rules;
-      over = search rules;
-      texts =
-          let added = c.in_ok-add_line.ensures.texts in
-          let before = c.lines.invariant.texts in
-          texts_after _ _ _ before added;
-      room =
-          let ends = c.args.ends in
-          let low = c.lines.auto.number in
-          let past : (c.lines.number + 1 == c.args.from) ≡ false = grind (arith, nat_tests, low) in
-          let here = subst (λ task. HasRoomFor c.lines.placing.builder c.args.lines.now c.lines.number
-          (record ends { task = task })) (sym (task_is c)) c.lines.invariant.room in
-          subst (λ task. HasRoomFor c.add_line.new.placing.builder c.args.lines.now (c.lines.number + 1)
-          (record ends { task = task })) (sym (on_false (c.lines.number + 1 == c.args.from) ends.task None past))
-          (room_after c.lines.placing.builder c.add_line.new.placing.builder c.args.lines.now c.lines.number
-          (record ends { task = c.if-number-from.task }) any_line _ c.lines-test.true here
-          (got c.args.lines.now c.lines.number any_line c.lines-test.true)
-          c.in_ok-add_line.ensures.goes_on);
-      left = λ sources are fit.
-          let text = c.args.placing.now.builder.text in
-          let same = c.lines.invariant.text in
-          let before = c.lines.invariant.left sources are fit in
-          let ends = c.args.ends in
-          let low = c.lines.auto.number in
-          let past : (c.lines.number + 1 == c.args.from) ≡ false = grind (arith, nat_tests, low) in
-          λ run.
-          let here = left_of_same text c.lines.placing.builder.text c.args.syntax _ c.if-number-from.task
-          ends.braces (drop c.lines.number sources) c.lines.placing.builder.levels _ (sym same) (sym (task_is c))
-          (before run) in
-          let added = c.in_ok-add_line.ensures.left sources _
-          (subst (λ t. AreTextLines t c.args.lines.now sources)
-          (sym same) are) here in
-          left_of_same c.lines.placing.builder.text text c.args.syntax None _ ends.braces
-          (drop (c.lines.number + 1) sources) c.add_line.new.placing.builder.levels _ same
-          (sym (on_false (c.lines.number + 1 == c.args.from) ends.task None past))
-          (added (c.lines.invariant.over run c.lines-test.true));
+      appends = subst (Appends _ _) (sym at) (appends_twice c.lines.invariant.appends added);
+      at = λ _. at ∙ ap (λ n. option_map_or (λ (line : HeldLine). line.next) (slice_get c.args.lines.now n) 0) last;
+      room = rw (on_false (c.lines.number + 1 == c.args.from) ends.task None first) (room_after c.lines.placing.builder
+          c.add_line.new.placing.builder c.args.lines.now c.lines.number
+          (record ends { task = c.if-number-from.task }) any_line _ c.lines-test.true
+          (rw (task_is c) c.lines.invariant.room) (got c.args.lines.now c.lines.number any_line c.lines-test.true)
+          added.goes_on);
+      left = λ sources are fit run. rw (on_false (c.lines.number + 1 == c.args.from) ends.task None first)
+          (c.in_ok-add_line.ensures.left (record { text = c.args.placing.now.builder.text; syntax = c.args.syntax })
+          sources _ (ap (λ t. record { text = t; syntax = c.args.syntax })
+          (sym (ap (λ (b : BuilderView). b.text) c.lines.invariant.appends.goes_on))) are
+          (rw (task_is c) (c.lines.invariant.left sources are fit run)));
     }
 
+pub returns-clause-appends : goal.returns-clause-appends
+returns-clause-appends c = λ less.
+    let all : c.lines.number ≡ length c.args.lines.now = omega (arith, less, c.lines-test.false, c.lines.auto.number) in
+    subst (Appends _ _)
+    (c.lines.invariant.at (omega (arith, less, c.lines-test.false)) ∙ ap (end_of c.args.lines.now) all)
+    c.lines.invariant.appends
+
 pub returns-clause-items : goal.returns-clause-items
-returns-clause-items c = λ sources are fit.
-    let left = c.lines.invariant.left sources are fit in
-    λ run.
-    let none = none_behind sources c.lines.number (omega (
-      arith,
-      as_many c.args.placing.now.builder.text
-          c.args.lines.now sources are,
-      c.lines-test.false,
-    )) in
-    nothing_left (record { text = c.args.placing.now.builder.text; syntax = c.args.syntax })
-    (record c.args.ends { task = if c.lines.number == c.args.from then c.args.ends.task else None })
-    (drop c.lines.number sources) c.lines.placing.builder.levels _ none (left run)
+returns-clause-items c = λ sources are fit run.
+    nothing_left (none_behind sources c.lines.number
+    (omega (arith, as_many c.args.placing.now.builder.text c.args.lines.now sources are, c.lines-test.false)))
+    (c.lines.invariant.left sources are fit run)

@@ -1,32 +1,27 @@
--- The text stays, and the lines before the number were appended: what is left of the lines makes the items of all.
-use Rattle.std.proofs.Common.{◌≡◌, ◌<◌, ◌-◌, List, None, drop, length, slice_get}
-use Rattle.std.specs.Option.{option_map_or}
+-- The lines before the number were appended: what is left of the lines makes the items of all.
+use Rattle.std.proofs.Common.{◌≡◌, ◌<◌, List, None, drop}
 use Rattle.std.specs.Prelude.{◌==◌, if◌then◌else◌}
 use Rattle.markdown_builder.specs.BuilderView.{with_items}
 use Rattle.markdown_lines.specs.SourceLines.{SourceLine}
 use Rattle.markdown_block_rules.specs.BlockRules.{before_braces}
-use Rattle.markdown_plain.specs.Fitting.{GoesOn}
 use Rattle.markdown_plain.specs.Closable.{HasRoomFor}
 use Rattle.markdown_plain.specs.HeldSources.{AreTextLines}
-use Rattle.markdown_plain.specs.LeafTrees.{HasMoreTexts}
+use Rattle.markdown_plain.specs.ParagraphSteps.{Appends}
+use Rattle.markdown_plain.specs.Paragraphs.{end_of}
 use Rattle.markdown_plain.specs.ParagraphItems.{HaveEnds, IsLeft, text_items}
 use Rattle.markdown_plain.proofs.paragraph.add_lines.Given as goal
 
 abbrev pub invariant-lines : goal.invariant-lines
 invariant-lines l = record {
-  text : l.placing.builder.text ≡ l.fn.placing.builder.text;
-  none : l.number ≡ l.from → l.placing ≡ l.fn.placing;
-  goes_on : l.from < l.number → GoesOn l.fn.placing.builder l.placing.builder (option_map_or (λ line. line.next)
-      (slice_get l.lines (l.number - 1)) 0);
-  over : l.fn.placing.builder.run ≡ None → l.number < length l.lines → l.placing.builder.run ≡ None;
-  texts : HasMoreTexts l.fn.placing.builder l.placing.builder;
+  appends : Appends l.fn.placing.builder l.placing.builder l.placing.builder.at;
+  at : l.from < l.number → l.placing.builder.at ≡ end_of l.lines l.number;
   room : HasRoomFor l.placing.builder l.lines l.number
       (record l.ends { task = if l.number == l.from then l.ends.task else None });
   left : (sources : List SourceLine) → AreTextLines l.fn.placing.builder.text l.lines sources
       → HaveEnds (drop l.from sources) l.ends → l.fn.placing.builder.run ≡ None
       → IsLeft (record { text = l.fn.placing.builder.text; syntax = l.syntax })
       (record l.ends { task = if l.number == l.from then l.ends.task else None }) (drop l.number sources)
-      l.placing.builder.levels (with_items l.fn.placing.builder.levels
+      l.placing.builder (with_items l.fn.placing.builder.levels
       (text_items (record { text = l.fn.placing.builder.text; syntax = l.syntax }) l.ends.task
       (before_braces l.ends.braces (drop l.from sources))));
 }

@@ -8,8 +8,7 @@ use Rattle.markdown_plain.proofs.paragraph.open_text.Goals as goal
 
 pub returns-in-Some-clause-leaf : goal.returns-in-Some-clause-leaf
 returns-in-Some-clause-leaf c =
-    IfOk-weaker c.open_heading.result _ _ (λ done opens stand.
-    subst (λ heading. MatchOption heading
+    IfOk-weaker c.open_heading.result _ _ (λ done opens stand. subst (λ heading. MatchOption heading
     (Opens c.args.placing.now.builder c.open_heading.new.placing.builder body.Paragraph)
     (λ h. OpensHeadingOf c.args.placing.now.builder c.open_heading.new.placing.builder h.0 c.args.braces))
     (sym c.in-Some.is) (opens stand)) c.open_heading.ensures.heading

@@ -1,23 +1,20 @@
 -- The text stays, the cell goes on, and the pieces that are left make its other items.
 use Rattle.std.proofs.Common.{◌≡◌, ◌-◌, ◌<◌, None, false}
 use Rattle.markdown_builder.specs.BuilderView.{with_items}
-use Rattle.markdown_items.specs.ContentItems.{AddsItems}
 use Rattle.markdown_items.specs.LineItems.{item_syntax}
 use Rattle.markdown_block_rules.specs.LineContents.{cell_items}
 use Rattle.markdown_plain.specs.Fitting.{GoesOn}
 use Rattle.markdown_plain.specs.LeafTrees.{HasMoreTexts}
-use Rattle.markdown_plain.specs.TableRows.{IsCellIn, IsOnePiece}
+use Rattle.markdown_plain.specs.TableRows.{IsOnePiece}
 use Rattle.markdown_plain.proofs.ShownRowsLemmas.{AwaitsPieces, MayAddPiece}
 use Rattle.markdown_plain.proofs.tables.add_cell_items.Given as goal
 
 abbrev pub invariant-pieces : goal.invariant-pieces
 invariant-pieces l = record {
-  text : l.placing.builder.text ≡ l.fn.placing.builder.text;
   goes_on : GoesOn l.fn.placing.builder l.placing.builder l.placing.builder.at;
-  inside : AddsItems l.fn.placing.builder l.placing.builder;
   texts : HasMoreTexts l.fn.placing.builder l.placing.builder;
   whole : l.escapes ≡ false → l.from < l.cell.to → l.from ≡ l.cell.from;
-  items : (l.escapes ≡ false → IsOnePiece l.fn.placing.builder.text l.cell) → IsCellIn l.fn.placing.builder.text l.cell
+  items : (l.escapes ≡ false → IsOnePiece l.fn.placing.builder.text l.cell)
       → l.fn.placing.builder.run ≡ None → AwaitsPieces (item_syntax l.syntax) l.cell.to
       (with_items l.fn.placing.builder.levels (cell_items l.fn.placing.builder.text (item_syntax l.syntax)
       l.cell.from l.cell.to)) l.placing.builder l.from;

@@ -1,20 +1,15 @@
 -- The heading is opened, filled with the items of its content, and closed.
-use Rattle.std.proofs.Common.{◌≡◌, ℕ, ap, ◌∙◌, refl, rules, None}
+use Rattle.std.proofs.Common.{◌≡◌, ◌∙◌, ℕ, None, ap, true, refl, rules, sym}
 use Rattle.markdown_base.specs.declared.item.ItemBody.TheVariants as body
 use Rattle.markdown_base.specs.declared.tag.HeadingLevel.{HeadingLevel}
-use Rattle.markdown_block_rules.specs.BlockRules.{shown_heading}
-use Rattle.markdown_builder.specs.BuilderView.{BuilderView, with_items}
-use Rattle.markdown_builder.specs.Shown.{chain_of}
-use Rattle.markdown_builder.specs.TreeLevels.{with_trees}
+use Rattle.markdown_builder.specs.BuilderView.{BuilderView}
 use Rattle.markdown_items.specs.ContentItems.{content_items}
 use Rattle.markdown_items.specs.LineItems.{item_syntax}
 use Rattle.markdown_plain.specs.Fitting.{GoesOn, OpensHeading, stepped}
-use Rattle.markdown_plain.specs.LeafTrees.{HasMoreTexts}
-use Rattle.markdown_plain.specs.Paragraphs.{IsPlacedTo, source_of}
+use Rattle.markdown_plain.specs.OpenLeaves.{is_leaf}
 use Rattle.markdown_plain.proofs.FittingLemmas.{IsInLeafAt, goes_at, opened_at, step_at, stepped_at}
-use Rattle.markdown_plain.proofs.LinedLeavesLemmas.{heading_placed}
-use Rattle.markdown_plain.proofs.OpenBlocksLemmas.{outer_of_opened}
-use Rattle.markdown_plain.proofs.LeafTreesLemmas.{no_text, put_heading, texts_after}
+use Rattle.markdown_plain.proofs.LeavesInPlaceLemmas.{closed_leaf}
+use Rattle.markdown_plain.proofs.LinedLeavesLemmas.{PutsItems, heading_opened}
 use Rattle.markdown_plain.proofs.pass.Pass.add_heading.Goals as goal
 
 -- the builder is in the heading that was opened
@@ -23,15 +18,12 @@ in_heading : (old now : BuilderView) (level : HeadingLevel) → OpensHeading old
 in_heading old now level opens =
     opened_at (record old { headings = now.headings }) now (body.Heading level opens.0) opens.1 refl
 
-pub open_heading-requires : goal.open_heading-requires
-open_heading-requires c = c.requires.outside
-
 pub step_to-requires : goal.step_to-requires
 step_to-requires c =
     let old = c.args.self.now.placing.builder in
     let now = c.open_heading.new.placing.builder in
-    step_at old.text old.at c.args.heading.from now
-    (in_heading old now c.args.heading.level c.in_ok-open_heading.ensures.opens) c.requires.from.0 c.requires.from.1
+    step_at _ _ c.args.heading.from now (in_heading old now c.args.heading.level c.in_ok-open_heading.ensures.opens)
+    c.requires.from.0 c.requires.from.1
 
 -- its content goes there
 in_content : (old now new : BuilderView) (level : HeadingLevel) (from : ℕ) → OpensHeading old now level
@@ -55,78 +47,40 @@ filled_to old now begun filled level from to opens steps goes =
 
 pub step_to-requires-2 : goal.step_to-requires-2
 step_to-requires-2 c =
-    let may = c.requires in
-    let old = c.args.self.now.placing.builder in
-    step_at old.text c.args.heading.to c.args.line.next c.add_items.new.self.builder
-    (filled_to old c.open_heading.new.placing.builder c.step_to.new.self.builder c.add_items.new.self.builder
-    c.args.heading.level c.args.heading.from c.args.heading.to c.in_ok-open_heading.ensures.opens
-    c.step_to.ensures.steps c.in_ok-add_items.ensures.appends) may.within may.next
+    step_at _ _ c.args.line.next c.add_items.new.self.builder
+    (filled_to c.args.self.now.placing.builder c.open_heading.new.placing.builder _ _ c.args.heading.level _ _
+    c.in_ok-open_heading.ensures.opens c.step_to.ensures.steps c.in_ok-add_items.ensures.appends) c.requires.within
+    c.requires.next
 
 pub close-requires : goal.close-requires
 close-requires c =
-    let old = c.args.self.now.placing.builder in
-    let end = stepped_at old.text c.args.heading.to c.args.line.next c.add_items.new.self.builder
-    c.step_to-2.new.self.builder c.step_to-2.ensures.steps
-    (filled_to old c.open_heading.new.placing.builder c.step_to.new.self.builder c.add_items.new.self.builder
-    c.args.heading.level c.args.heading.from c.args.heading.to c.in_ok-open_heading.ensures.opens
-    c.step_to.ensures.steps c.in_ok-add_items.ensures.appends) in
+    let end = stepped_at _ _ c.args.line.next _ c.step_to-2.new.self.builder c.step_to-2.ensures.steps
+    (filled_to c.args.self.now.placing.builder c.open_heading.new.placing.builder c.step_to.new.self.builder
+    c.add_items.new.self.builder c.args.heading.level _ _ c.in_ok-open_heading.ensures.opens c.step_to.ensures.steps
+    c.in_ok-add_items.ensures.appends) in
     record { some = end.inside.some; other = end.inside.plain }
 
-pub returns-clause-text : goal.returns-clause-text
-returns-clause-text c =
-    let opened = c.in_ok-open_heading.ensures.text in
-    let filled = c.in_ok-add_items.ensures.text in
-    c.close.ensures.text ∙ (c.step_to-2.ensures.text ∙ (filled ∙ (c.step_to.ensures.text ∙ opened)))
-
-pub returns-clause-adds : goal.returns-clause-adds
-returns-clause-adds c = search (rules, outer_of_opened)
-
-pub returns-clause-same : goal.returns-clause-same
-returns-clause-same c = refl
-
-pub returns-clause-tree : goal.returns-clause-tree
-returns-clause-tree c = λ stand.
-    let put = c.close.ensures.tree in
-    let filled = c.in_ok-add_items.ensures.items in
-    let opens = c.in_ok-open_heading.ensures.heading stand in
-    let run : c.step_to.new.self.builder.run ≡ None = search rules in
-    let text : c.step_to.new.self.builder.text ≡ c.args.self.now.placing.builder.text = search rules in
-    let at : c.step_to-2.new.self.builder.at ≡ c.args.line.next = search rules in
-    let from : c.step_to.new.self.builder.at ≡ c.args.heading.from = search rules in
-    let blocks : c.step_to-2.new.self.builder.blocks ≡ c.open_heading.new.placing.builder.blocks = search rules in
-    let headings : c.step_to-2.new.self.builder.headings ≡ c.open_heading.new.placing.builder.headings = search rules in
-    let kept : c.step_to-2.new.self.builder.levels ≡ c.add_items.new.self.builder.levels = search rules in
-    let before : c.step_to.new.self.builder.levels ≡ c.open_heading.new.placing.builder.levels = search rules in
-    let items = content_items c.args.self.now.placing.builder.text (item_syntax c.args.self.now.syntax)
-    c.args.heading.from c.args.heading.to in
-    let levels : c.step_to-2.new.self.builder.levels ≡ with_items c.open_heading.new.placing.builder.levels items =
-    kept ∙ (filled run
-    ∙ (ap (λ ls. with_items ls (content_items c.step_to.new.self.builder.text (item_syntax c.args.self.now.syntax)
-    c.step_to.new.self.builder.at c.args.heading.to)) before
-    ∙ (ap (λ t. with_items c.open_heading.new.placing.builder.levels (content_items t
-    (item_syntax c.args.self.now.syntax) c.step_to.new.self.builder.at c.args.heading.to)) text
-    ∙ ap (λ n. with_items c.open_heading.new.placing.builder.levels (content_items c.args.self.now.placing.builder.text
-    (item_syntax c.args.self.now.syntax) n c.args.heading.to)) from))) in
-    λ some. put_heading (source_of c.args.self.now) c.args.self.now.placing.builder
-    c.open_heading.new.placing.builder c.step_to-2.new.self.builder c.close.new.self.builder c.args.heading.level
-    c.args.heading.braces items refl opens blocks headings levels put some
-    ∙ ap (λ n. with_trees c.args.self.now.placing.builder.levels (shown_heading (source_of c.args.self.now)
-    c.args.self.now.placing.builder.at n c.args.heading.level c.args.heading.braces (chain_of items))) at
-
 pub returns-clause-leaf : goal.returns-clause-leaf
-returns-clause-leaf c = λ s frames inside b built syntax kind start last stand.
+returns-clause-leaf c = λ stand s frames inside b built syntax kind start last.
     let old = c.args.self.now.placing.builder in
-    let made = returns-clause-tree c stand in
-    let closed = c.close.ensures.closes in
-    let over = c.step_to-2.ensures.steps in
-    let filled = c.in_ok-add_items.ensures.texts in
+    let opened = c.open_heading.new.placing.builder in
+    let now = c.step_to-2.new.self.builder in
+    let heading = c.args.heading in
     let first = c.step_to.ensures.steps in
-    let opened = c.in_ok-open_heading.ensures.opens in
-    let texts : HasMoreTexts old c.close.new.self.builder =
-    texts_after _ _ _ (no_text _ _ (ap (λ (v : BuilderView). v.texts) first
-    ∙ ap (λ (v : BuilderView). v.texts) opened.1))
-    (texts_after _ _ _ filled (no_text _ _ (ap (λ (v : BuilderView). v.texts) closed
-    ∙ ap (λ (v : BuilderView). v.texts) over))) in
-    let placed : IsPlacedTo old c.close.new.self.builder c.args.line.next = search (rules, outer_of_opened) in
-    heading_placed s old c.close.new.self.builder c.args.self.now.syntax frames inside b c.args.heading
-    c.args.line.next built syntax kind start last placed texts made
+    let filled = c.in_ok-add_items.ensures in
+    let run : c.step_to.new.self.builder.run ≡ None = search rules in
+    let text : opened.text ≡ old.text = search rules in
+    let end : now.at ≡ c.args.line.next = search rules in
+    let syntax_now = item_syntax c.args.self.now.syntax in
+    let puts : PutsItems opened now (content_items old.text syntax_now heading.from heading.to) = record {
+      goes_on = rw (c.step_to-2.ensures.steps, filled.appends, first) refl;
+      texts = record {
+        more = filled.texts.more;
+        are = rw c.step_to-2.ensures.steps (rw first at filled.texts.are);
+      };
+      added = rw c.step_to-2.ensures.steps (rw text at (rw first at (filled.items run)));
+    } in
+    closed_leaf s now c.close.new.self.builder frames inside true b (ap is_leaf kind) c.close.ensures.closes
+    c.close.ensures.tree
+    (heading_opened s old opened now frames inside b heading built (c.in_ok-open_heading.ensures.heading stand) puts
+    (rw (built.text, syntax) refl) kind start (last ∙ sym end))

@@ -1,59 +1,69 @@
 -- What has not ended is the last block in the innermost open container: a leaf that is closed, or a paragraph.
-use Rattle.std.proofs.Common.{◌≡◌, ◌∙◌, List, Option, Some, None, ◌==◌, true, false, not, arith, length, rules, sym}
+use Rattle.std.proofs.Common.{◌≡◌, ◌∙◌, ◌==◌, ◌<◌, ap, false, true, arith, length, not, refl, rules, subst, sym}
 use Rattle.std.proofs.Common.{true≢false}
 use Rattle.std.proofs.lemmas.Bool.Decides.{nat_tests}
-use Rattle.markdown_base.specs.Forest.{Forest}
-use Rattle.markdown_builder.specs.TreeLevels.{followed_by}
-use Rattle.markdown_base.specs.Source.{Source}
-use Rattle.markdown_lines.specs.SourceLines.{SourceLine}
-use Rattle.markdown_block_rules.specs.BlockGrowth.{Block}
-use Rattle.markdown_plain.proofs.LeavesInPlaceLemmas.{closed_leaf}
-use Rattle.markdown_plain.specs.Frames.{Frame}
 use Rattle.markdown_plain.specs.OpenBlocks.{has_leaf}
-use Rattle.markdown_plain.specs.OpenLeaves.{IsPlaced, IsUnended, is_table, leaf_block}
-use Rattle.markdown_plain.proofs.OpenTablesLemmas.{built_outside, open_has_leaf}
+use Rattle.markdown_plain.specs.ParagraphSteps.{EndsTo}
+use Rattle.markdown_plain.specs.OpenLeaves.{is_table}
+use Rattle.markdown_plain.proofs.ClosingDownLemmas.{leaf_ended}
+use Rattle.markdown_plain.proofs.HasRoomLemmas.{none_held}
+use Rattle.markdown_plain.proofs.LeavesInPlaceLemmas.{closed_leaf}
+use Rattle.markdown_plain.proofs.ParagraphsLemmas.{past_end}
 use Rattle.markdown_plain.proofs.pass.Pass.end_leaf.Goals as goal
 
-pub returns-then-has_leaf-clause-frame : goal.returns-then-has_leaf-clause-frame
-returns-then-has_leaf-clause-frame c = λ s frames inside b held unended syntax.
-    let closes = c.close.ensures.closes in
-    (placed c s frames inside b held unended (sym c.has_leaf.ensures ∙ c.if-has_leaf.true))
-  where
-    placed : (c : goal.After-close) (s : Source) (frames : List Frame) (inside : Forest Block) (b : Block)
-        (held : Option (List SourceLine)) → IsUnended s c.args.self.now frames inside b held
-        → has_leaf c.args.self.now.placing.builder ≡ true → IsPlaced s c.close.new.self.builder frames
-        (followed_by inside (leaf_block b))
-    placed c s frames inside b None unended leaf =
-        closed_leaf s c.args.self.now.placing.builder c.close.new.self.builder frames inside (not (is_table b.kind)) b
-        unended.0 c.close.ensures.closes c.close.ensures.tree unended.1
-    placed c s frames inside b (Some sources) holds leaf =
-        absurd (true≢false (sym leaf
-        ∙ built_outside s c.args.self.now.placing.builder frames inside holds.built))
+pub returns-then-has_leaf : goal.returns-then-has_leaf
+returns-then-has_leaf c =
+    let open_one : has_leaf c.args.self.now.placing.builder ≡ true = sym c.has_leaf.ensures ∙ c.if-has_leaf.true in
+    leaf_ended c.args.self.now _ (record {
+      leaf = λ s frames inside b open_still is open_in.
+          closed_leaf s c.args.self.now.placing.builder c.close.new.self.builder frames inside
+          (not (is_table b.kind)) b is c.close.ensures.closes c.close.ensures.tree open_in;
+      paragraph = λ s frames inside b sources none holds same. absurd (true≢false (sym open_one ∙ none));
+      kept = λ none lines. absurd (true≢false (sym open_one ∙ none));
+      are = search rules;
+      text = search rules;
+      ended = search rules;
+      unheld = λ held. search rules;
+      here = λ is. search (rules, is);
+      same = search rules;
+    })
 
-pub returns-in_ok-end_paragraph-clause-frame : goal.returns-in_ok-end_paragraph-clause-frame
-returns-in_ok-end_paragraph-clause-frame c = λ s frames inside b held unended syntax.
-    placed c s frames inside b held unended syntax (sym c.has_leaf.ensures ∙ c.if-has_leaf.false)
-  where
-    placed : (c : goal.In_ok-end_paragraph) (s : Source) (frames : List Frame) (inside : Forest Block) (b : Block)
-        (held : Option (List SourceLine)) → IsUnended s c.args.self.now frames inside b held
-        → s.syntax ≡ c.args.self.now.syntax → has_leaf c.args.self.now.placing.builder ≡ false
-        → IsPlaced s c.end_paragraph.new.self.placing.builder frames (followed_by inside (leaf_block b))
-    placed c s frames inside b None unended syntax outside =
-        absurd (true≢false (sym (open_has_leaf s c.args.self.now.placing.builder frames inside b unended.1)
-        ∙ outside))
-    placed c s frames inside b (Some sources) holds syntax outside =
-        c.in_ok-end_paragraph.ensures.frame s frames inside b sources holds syntax
+pub returns-in_ok-end_paragraph : goal.returns-in_ok-end_paragraph
+returns-in_ok-end_paragraph c =
+    let none : has_leaf c.args.self.now.placing.builder ≡ false = sym c.has_leaf.ensures ∙ c.if-has_leaf.false in
+    let old = c.args.self.now in
+    let some : 0 < length old.lines.items = search rules in
+    let ends = subst (EndsTo old.placing.builder c.end_paragraph.new.self.placing.builder)
+    (past_end old.placing.builder.at old.lines.items some) c.in_ok-end_paragraph.ensures.ends in
+    leaf_ended old _ (record {
+      leaf = λ s frames inside b open_still is open_in. absurd (true≢false (sym open_still ∙ none));
+      paragraph = λ s frames inside b sources outside holds same.
+          c.in_ok-end_paragraph.ensures.frame s frames inside b sources holds same;
+      kept = λ leaf lines.
+          absurd (omega (arith, some, ap length lines));
+      are = search rules;
+      text = search rules;
+      ended = search rules;
+      unheld = λ held. search (rules, held, none);
+      here = λ is. search (rules, is, ends);
+      same = search rules;
+    })
 
--- something has not ended, so that one of the two was there
-pub returns-else-not-is_empty-clause-frame : goal.returns-else-not-is_empty-clause-frame
-returns-else-not-is_empty-clause-frame c = λ s frames inside b held unended syntax.
-    let empty : (length c.args.self.now.lines.items == 0) ≡ true = search rules in
-    absurd (none s frames inside b held unended (sym c.has_leaf.ensures ∙ c.if-has_leaf.false) empty)
-  where
-    none : (s : Source) (frames : List Frame) (inside : Forest Block) (b : Block) (held : Option (List SourceLine))
-        → IsUnended s c.args.self.now frames inside b held → has_leaf c.args.self.now.placing.builder ≡ false
-        → (length c.args.self.now.lines.items == 0) ≡ true → ⊥
-    none s frames inside b None unended outside empty =
-        true≢false (sym (open_has_leaf s c.args.self.now.placing.builder frames inside b unended.1) ∙ outside)
-    none s frames inside b (Some sources) holds outside empty =
-        let some = holds.some in absurd (grind (arith, nat_tests, empty, some))
+-- something has not ended only where one of the two was there
+pub returns-else-not-is_empty : goal.returns-else-not-is_empty
+returns-else-not-is_empty c =
+    let none : has_leaf c.args.self.now.placing.builder ≡ false = sym c.has_leaf.ensures ∙ c.if-has_leaf.false in
+    leaf_ended c.args.self.now c.args.self.now (record {
+      leaf = λ s frames inside b open_still is open_in. absurd (true≢false (sym open_still ∙ none));
+      paragraph = λ s frames inside b sources outside holds same.
+          let some = holds.some in
+          let empty : (length c.args.self.now.lines.items == 0) ≡ true = search rules in
+          absurd (grind (arith, nat_tests, empty, some));
+      kept = λ leaf lines. refl;
+      are = search rules;
+      text = refl;
+      ended = none_held c.args.self.now.lines.items (search rules);
+      unheld = λ held. search (rules, held, none);
+      here = λ is. search (rules, is);
+      same = refl;
+    })

@@ -1,29 +1,27 @@
 -- The lines before the head end, and then the table is opened, with its head.
-use Rattle.std.proofs.Common.{◌≡◌, ◌++◌, ◌∷◌, ◌<◌, [], ℕ, List, Some, arith, length, refl, sym, ap, ◌∙◌}
-use Rattle.std.proofs.Common.{subst}
+use Rattle.std.proofs.Common.{◌≡◌, ◌++◌, ◌∷◌, ◌<◌, [], ℕ, List, Some, arith, length, refl, sym, ap, ◌∙◌, rules, subst}
 use Rattle.std.proofs.lemmas.Bool.Decides.{nat_tests}
 use Rattle.markdown_base.specs.Forest.{Forest}
 use Rattle.std.specs.Str.{IsCharBoundary}
 use Rattle.markdown_base.specs.declared.item.ItemBody.TheVariants as body
 use Rattle.markdown_builder.specs.BuilderView.{BuilderView}
 use Rattle.markdown_builder.specs.EvenRows.{open_columns}
-use Rattle.markdown_block_rules.specs.BlockRules.{shown_row}
+use Rattle.markdown_plain.specs.TableRows.{PutsTrees, line_row}
 use Rattle.markdown_plain.specs.HeldSources.{IsTextLine}
-use Rattle.markdown_plain.specs.LeafTrees.{HasTrees}
 use Rattle.markdown_plain.proofs.FittingLemmas.{may_step, some_opened}
 use Rattle.markdown_base.specs.Source.{Source}
 use Rattle.markdown_lines.specs.SourceLines.{SourceLine}
 use Rattle.markdown_block_rules.specs.BlockGrowth.{Block}
 use Rattle.markdown_plain.specs.declared.pass.Pass.{Pass}
+use Rattle.markdown_plain.specs.declared.placing.Placing.{Placing}
 use Rattle.markdown_plain.specs.Closable.{AreAhead, IsInText}
 use Rattle.markdown_plain.specs.Frames.{Frame}
 use Rattle.markdown_plain.specs.Settled.{IsBuilt}
 use Rattle.markdown_plain.specs.TableHeads.{before_table, last_of}
-use Rattle.markdown_plain.proofs.AddedLinesLemmas.{past}
-use Rattle.markdown_plain.proofs.BegunTablesLemmas.{table_begun}
-use Rattle.markdown_plain.proofs.TableFrontsLemmas.{HasFront, IsEndedAt, ahead_front, ended_at, front_holds, front_none}
-use Rattle.markdown_plain.proofs.TableFrontsLemmas.{head_in_text, head_is, may_step_to_head, none_ended}
-use Rattle.markdown_plain.proofs.TableFrontsLemmas.{with_head}
+use Rattle.markdown_plain.specs.Paragraphs.{past}
+use Rattle.markdown_plain.proofs.TableFrontsLemmas.{HasFront, IsEndedAt, ahead_front, ended_front, front_holds}
+use Rattle.markdown_plain.proofs.TableFrontsLemmas.{front_none, head_in_text, head_is, may_step_to_head, none_ended}
+use Rattle.markdown_plain.proofs.TableFrontsLemmas.{with_head, table_begun}
 use Rattle.markdown_plain.proofs.pass.Pass.open_table.Goals.{then-not-is_empty+in_ok-end_paragraph, else-not-is_empty}
 use Rattle.markdown_plain.proofs.pass.Pass.open_table.Goals.{After-step_to-arg-1, After-is_empty}
 use Rattle.markdown_plain.proofs.pass.Pass.open_table.Goals as goal
@@ -59,60 +57,42 @@ front_built c s frames inside b before from has syntax =
           has.holds.built)
     ]
 
-front_options : (c : goal.In_ok-_found) → c.if-not-is_empty.self.syntax ≡ c.args.self.now.syntax
-front_options c = elim c.if-not-is_empty.branch [
+-- what else the pass has stays, and no line is held back
+front_same : (c : goal.In_ok-_found) → (placing : Placing) → record c.if-not-is_empty.self { placing = placing }
+    ≡ record c.args.self.now {
+      placing = placing;
+      lines = c.if-not-is_empty.self.lines;
+      tried = c.if-not-is_empty.self.tried;
+    }
+front_same c placing = elim c.if-not-is_empty.branch [
   | then-not-is_empty+in_ok-end_paragraph w ↦
-      ap (λ (p : Pass). p.syntax) w.self-is ∙ ap (λ (p : Pass). p.syntax) w.end_paragraph.ensures.same
-  | else-not-is_empty w ↦ ap (λ (p : Pass). p.syntax) w.self-is
+      ap (λ (p : Pass). record p { placing = placing }) w.self-is
+      ∙ (ap (λ (p : Pass). record p { placing = placing }) w.end_paragraph.ensures.same
+      ∙ (ap (λ tried. record c.args.self.now {
+        placing = placing;
+        lines = w.end_paragraph.new.self.lines;
+        tried = tried;
+      }) (sym (ap (λ (p : Pass). p.tried) w.end_paragraph.ensures.same))
+      ∙ ap (λ (p : Pass). record c.args.self.now { placing = placing; lines = p.lines; tried = p.tried })
+      (sym w.self-is)))
+  | else-not-is_empty w ↦
+      ap (λ (p : Pass). record p { placing = placing }) w.self-is
+      ∙ ap (λ (p : Pass). record c.args.self.now { placing = placing; lines = p.lines; tried = p.tried })
+      (sym w.self-is)
 ]
 
-pub returns-clause-frame : goal.returns-clause-frame
-returns-clause-frame c = λ s frames inside b before from holds source there ahead.
-    let pass = c.args.self.now in
-    let text = pass.placing.builder.text in
-    let front = c.pop-head.new.self.items in
-    let all = all_of c there in
-    let has : HasFront s pass frames inside b before from front c.args.head = record { holds = holds; all = all } in
-    let first = c.if-not-is_empty.self.placing.builder in
-    let placed = c.in_ok-_found.ensures.placed in
-    let opened = c.in_ok-open_table.ensures.opens in
-    let moved = c.step_to.ensures.steps in
-    let built = front_built c s frames inside b before from has (ap (λ (s : Source). s.syntax) (sym source)) in
-    let same : c.open_table.new.self.builder.text ≡ text =
-    ap (λ (v : BuilderView). v.text) opened.2 ∙ (ap (λ (v : BuilderView). v.text) moved
-    ∙ (built.text ∙ sym holds.built.text)) in
-    let line = head_is s pass frames inside b before from front c.args.head has in
-    let inside_it = head_in_text pass.placing.builder front c.args.head
-    (subst (AreAhead pass.placing.builder) all ahead) in
-    let row : HasTrees c.open_table.new.self.builder c.place_row.new.placing.builder
-    (shown_row (record {
-      text = c.open_table.new.self.builder.text;
-      syntax = c.if-not-is_empty.self.syntax;
-    }) (open_columns c.open_table.new.self.builder) body.TableHead from) =
-    c.in_ok-_found.ensures.tree refl
-    (subst (λ (t : List ℕ). IsInText t c.args.head) (sym same) inside_it) from
-    (subst (λ (t : List ℕ). IsTextLine t c.args.head from) (sym same) line) in
-    table_begun s frames (before_table inside b before) c.args.head from c.args.alignments.items first
-    c.step_to.new.self.builder c.open_table.new.self.builder c.place_row.new.placing.builder built (record {
-      steps = moved;
-      opens = opened;
-      placed = placed;
-      texts = c.in_ok-_found.ensures.texts;
-      row = subst (λ (s : Source). HasTrees c.open_table.new.self.builder c.place_row.new.placing.builder
-          (shown_row s (open_columns c.open_table.new.self.builder) body.TableHead from))
-          (ap (λ (t : List ℕ). record { text = t; syntax = c.if-not-is_empty.self.syntax }) same
-          ∙ (ap (λ o. record { text = text; syntax = o }) (front_options c) ∙ source)) row;
-      is = subst (λ (t : List ℕ). IsTextLine t c.args.head from) holds.built.text line;
-    })
-
-pub returns-clause-here : goal.returns-clause-here
-returns-clause-here c =
-    let placed = c.in_ok-_found.ensures.placed in
-    let opened = c.in_ok-open_table.ensures.opens in (
-      ap (λ (v : BuilderView). v.at) placed,
-      some_opened c.place_row.new.placing.builder.blocks c.step_to.new.self.builder.blocks _
-          (ap (λ (v : BuilderView). v.blocks) placed ∙ ap (λ (v : BuilderView). v.blocks) opened.2),
-    )
+front_over : (c : goal.In_ok-_found) → c.if-not-is_empty.self.lines.items ≡ []
+front_over c = elim c.if-not-is_empty.branch [
+  | then-not-is_empty+in_ok-end_paragraph w ↦
+      ap (λ (p : Pass). p.lines.items) w.self-is ∙ w.in_ok-end_paragraph.ensures.emptied
+  | else-not-is_empty w ↦
+      ap (λ (p : Pass). p.lines.items) w.self-is
+      ∙ is_nothing c.pop-head.new.self.items (grind (arith, nat_tests, c.is_empty.ensures, w.if-not-is_empty.false))
+]
+  where
+    is_nothing : {A : Type 0} (xs : List A) → length xs ≡ 0 → xs ≡ []
+    is_nothing [] none = refl
+    is_nothing (x ∷ xs) none = absurd (omega (arith, none))
 
 -- the lines that are held back are those before the head, and the head
 ahead_with : (c : After-is_empty) → AreAhead c.args.self.now.placing.builder
@@ -122,10 +102,14 @@ ahead_with c =
     (with_head c.args.self.now.lines.items c.pop-head.new.self.items _ c.pop-head.result c.args.head
     c.args.self.now.lines.ok.0 c.pop-head.ensures.items c.pop-head.ensures.value c.requires.head) c.requires.ahead
 
-pub end_paragraph-requires-clause-ahead : goal.end_paragraph-requires-clause-ahead
-end_paragraph-requires-clause-ahead c =
-    ahead_front c.args.self.now.placing.builder c.pop-head.new.self.items c.args.head
-    (ahead_with (goal.at.end_paragraph-requires-clause-ahead c).After-is_empty)
+pub end_paragraph-requires : goal.end_paragraph-requires
+end_paragraph-requires c = record {
+  outside = c.requires.outside;
+  ahead = ahead_front c.args.self.now.placing.builder c.pop-head.new.self.items c.args.head
+      (ahead_with (goal.at.end_paragraph-requires c).After-is_empty);
+  task = search rules;
+  heading_ends = tt;
+}
 
 -- and where the builder is then
 front_ended : (c : After-step_to-arg-1)
@@ -136,13 +120,9 @@ front_ended c =
     let front = c.pop-head.new.self.items in
     elim c.if-not-is_empty.branch [
       | then-not-is_empty+in_ok-end_paragraph w ↦
-          let some : 0 < length front = grind (arith, nat_tests, c.is_empty.ensures, w.if-not-is_empty.true) in
           subst (λ (p : Pass). IsEndedAt old p.placing.builder (past old.at front)) (sym w.self-is)
-          (ended_at old w.end_paragraph.new.self.placing.builder front w.in_ok-end_paragraph.field-0 some
-          c.requires.outside
-          (λ left. w.in_ok-end_paragraph.ensures.ends left)
-          (λ none. w.in_ok-end_paragraph.ensures.defines none)
-          (λ none. w.in_ok-end_paragraph.ensures.after none some))
+          (ended_front old w.end_paragraph.new.self.placing.builder front c.requires.outside
+          w.in_ok-end_paragraph.ensures.ends)
       | else-not-is_empty w ↦
           let none : length front ≡ 0 = grind (arith, nat_tests, c.is_empty.ensures, w.if-not-is_empty.false) in
           none_ended old c.if-not-is_empty.self.placing.builder front none c.requires.outside
@@ -158,14 +138,12 @@ step_to-requires c =
 -- the head fits as a row
 pub place_row-requires-clause-may : goal.place_row-requires-clause-may
 place_row-requires-clause-may c =
-    let old = c.args.self.now.placing.builder in
-    let front = c.pop-head.new.self.items in
     let ended = front_ended (goal.at.place_row-requires-clause-may c).After-step_to-arg-1 in
     let moved = c.step_to.ensures.steps in
     let opened = c.in_ok-open_table.ensures.opens in
-    let is = head_in_text old front c.args.head
+    let is = head_in_text c.args.self.now.placing.builder c.pop-head.new.self.items c.args.head
     (ahead_with (goal.at.place_row-requires-clause-may c).After-is_empty) in
-    let same : c.open_table.new.self.builder.text ≡ old.text =
+    let same : c.open_table.new.self.builder.text ≡ c.args.self.now.placing.builder.text =
     ap (λ (v : BuilderView). v.text) opened.2 ∙ (ap (λ (v : BuilderView). v.text) moved ∙ ended.text) in
     let here : c.open_table.new.self.builder.at ≡ c.args.head.start =
     ap (λ (v : BuilderView). v.at) opened.2 ∙ ap (λ (v : BuilderView). v.at) moved in
@@ -176,4 +154,42 @@ place_row-requires-clause-may c =
           (some_opened c.open_table.new.self.builder.blocks c.step_to.new.self.builder.blocks _
           (ap (λ (v : BuilderView). v.blocks) opened.2));
       inside = subst (λ (t : List ℕ). IsInText t c.args.head) (sym same) is;
+    }
+
+-- the table, with its head
+pub returns : goal.returns
+returns c =
+    let text = c.args.self.now.placing.builder.text in
+    let all = all_of c c.requires.head in
+    let ended = (front_ended (goal.at.returns c).After-step_to-arg-1).text in
+    let puts = c.in_ok-_found.ensures.puts refl in
+    let opened = c.in_ok-open_table.ensures.opens in
+    let same : c.open_table.new.self.builder.text ≡ text =
+    ap (λ (v : BuilderView). v.text) opened.2 ∙ (ap (λ (v : BuilderView). v.text) c.step_to.ensures.steps ∙ ended) in
+    record {
+      same = front_same c c.place_row.new.placing;
+      text = ap (λ (v : BuilderView). v.text) puts.placed ∙ same;
+      ended = front_over c;
+      here = ap (λ (v : BuilderView). v.at) puts.placed;
+      some = some_opened c.place_row.new.placing.builder.blocks c.step_to.new.self.builder.blocks _
+          (ap (λ (v : BuilderView). v.blocks) puts.placed ∙ ap (λ (v : BuilderView). v.blocks) opened.2);
+      opened = λ s frames inside b before from source holds.
+          let has : HasFront s c.args.self.now frames inside b before from c.pop-head.new.self.items c.args.head =
+          record { holds = holds; all = all } in
+          let line = head_is s c.args.self.now frames inside b before from c.pop-head.new.self.items c.args.head has in
+          let here : record { text = c.open_table.new.self.builder.text; syntax = c.if-not-is_empty.self.syntax } ≡ s =
+          ap (λ (t : List ℕ). record { text = t; syntax = c.if-not-is_empty.self.syntax }) same
+          ∙ (ap (λ (p : Pass). record { text = text; syntax = p.syntax }) (front_same c c.args.self.now.placing)
+          ∙ source) in
+          rw line.next (table_begun s frames (before_table inside b before) c.args.head from c.args.alignments.items
+          c.if-not-is_empty.self.placing.builder c.step_to.new.self.builder c.open_table.new.self.builder
+          c.place_row.new.placing.builder
+          (front_built c s frames inside b before from has (ap (λ (s : Source). s.syntax) (sym source))) (record {
+            steps = c.step_to.ensures.steps;
+            opens = opened;
+            puts = subst (λ (s : Source). PutsTrees c.open_table.new.self.builder c.place_row.new.placing.builder
+                c.args.head.next (line_row s (open_columns c.open_table.new.self.builder) body.TableHead c.args.head))
+                here puts;
+            is = subst (λ (t : List ℕ). IsTextLine t c.args.head from) holds.built.text line;
+          }));
     }

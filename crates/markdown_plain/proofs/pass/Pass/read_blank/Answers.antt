@@ -1,10 +1,9 @@
 -- The containers that the line does not reach are closed, or it is held back as a line of indented code.
-use Rattle.std.proofs.Common.{◌≡◌, ◌∙◌, ℕ, [], true, false, map, sym, subst, ap, rules, true≢false}
+use Rattle.std.proofs.Common.{◌≡◌, ◌∙◌, ℕ, [], true, false, map, sym, subst, ap, rules, true≢false, slice_range}
 use Rattle.markdown_base.specs.Source.{Source}
 use Rattle.markdown_lines.specs.SourceLines.{SourceLine, is_blank_rest}
 use Rattle.markdown_block_rules.specs.BlockGrowth.{with_line}
 use Rattle.markdown_plain.specs.Frames.{touched}
-use Rattle.std.proofs.Common.{slice_range}
 use Rattle.std.specs.List.{list_all}
 use Rattle.markdown_scan.specs.LineStart.{LineLeft}
 use Rattle.markdown_lines.specs.Lines.{is_space_or_tab}
@@ -14,9 +13,8 @@ use Rattle.markdown_plain.specs.Settled.{QuotesEnd}
 use Rattle.markdown_plain.specs.Standing.{StandsFor}
 use Rattle.markdown_plain.specs.declared.pass.LeafKind.TheVariants as leaf
 use Rattle.markdown_plain.specs.declared.pass.Pass.{Pass}
-use Rattle.markdown_plain.proofs.BlankStandingLemmas.{ClosesDown, blank_ends, blank_seen, blank_stands}
-use Rattle.markdown_plain.proofs.BlankStandingLemmas.{closed_to_reached}
-use Rattle.markdown_plain.proofs.BlankStandingLemmas.{code_stands, goes_not, none_inside}
+use Rattle.markdown_plain.proofs.BlankStandingLemmas.{blank_ends, blank_seen, blank_stands}
+use Rattle.markdown_plain.proofs.BlankStandingLemmas.{closed_to_reached, code_stands, goes_not, none_inside}
 use Rattle.markdown_plain.proofs.ReadyLinesLemmas.{SeesBlank, line_fits_after, place_reached}
 use Rattle.markdown_plain.proofs.pass.Pass.read_blank.Goals.{in-Indented, in_default}
 use Rattle.markdown_plain.proofs.pass.Pass.read_blank.Goals.{then-in_code+then-reached+in_ok-hold_blank}
@@ -74,18 +72,8 @@ seen c s before source placed by blank off quotes sees =
           place.high place.ends))
       | else-in_code+in_ok-close_down w ↦
           let mid = w.close_down.new.self in
-          let closes : ClosesDown s old mid c.args.reached.depth = record {
-            forgets = w.in_ok-close_down.ensures.forgets s;
-            finishes = w.in_ok-close_down.ensures.finishes s;
-            loose = w.in_ok-close_down.ensures.loose;
-            lines = w.in_ok-close_down.ensures.ended;
-            dropped = w.in_ok-close_down.ensures.dropped;
-            unheld = w.in_ok-close_down.ensures.unheld;
-            source = search rules;
-            from = search rules;
-            here = w.in_ok-close_down.ensures.here;
-          } in
-          let there = closed_to_reached s old mid c.args.line c.args.reached before source by closes in
+          let there = closed_to_reached s old mid c.args.line c.args.reached before source by
+          w.in_ok-close_down.ensures in
           subst (λ (p : Pass). StandsFor s (blank_seen p c.args.reached.quoted placed) c.args.line.next
           (with_line s (blocks_before before) source)) (sym w.self-is)
           (blank_stands s old mid c.args.line c.args.reached before source placed by blank
@@ -107,22 +95,26 @@ before_it c =
       | then-in_code+then-reached+in_ok-hold_blank w ↦
           ap (λ (p : Pass). p.placed) (w.self-is ∙ w.in_ok-hold_blank.ensures.same)
       | else-in_code+in_ok-close_down w ↦
-          ap (λ (p : Pass). p.placed) (w.self-is ∙ w.in_ok-close_down.ensures.same)
+          ap (λ (p : Pass). p.placed) w.self-is ∙ ap (λ (p : Pass). p.placed) w.in_ok-close_down.ensures.same
     ]
 
-pub returns-clause-stands : goal.returns-clause-stands
-returns-clause-stands c = λ s before source by blank off.
-    let old = c.args.self.now in
-    let same = c.see_blank.ensures.same in
-    let text : c.if-in_code.self.placing.builder.text ≡ old.placing.builder.text = search rules in
-    let bytes = ap (λ t. slice_range t c.args.line.start c.args.line.stop) text
-    ∙ ap (λ (left : LineLeft). left.bytes) by.is.left in
-    let quotes = blank_ends s old c.args.line c.args.reached before source c.see_blank.new.self.placed by
-    (λ some. c.see_blank.ensures.placed (ap (list_all is_space_or_tab) bytes ∙ some)) in
-    let sees : SeesBlank old c.args.line source c.see_blank.new.self.placed = record {
-      moves = λ some. c.see_blank.ensures.placed (ap (list_all is_space_or_tab) bytes ∙ some);
-      stays = λ white. c.see_blank.ensures.stays (ap (list_all is_space_or_tab) bytes ∙ white) ∙ before_it c;
-    } in
-    let made = seen c s before source c.see_blank.new.self.placed by blank off quotes sees in
-    subst (λ (p : Pass). StandsFor s p c.args.line.next (with_line s (blocks_before before) source)) (sym same)
-    made
+pub returns : goal.returns
+returns c = record {
+  stands = λ may.
+      let old = c.args.self.now in
+      let by = may.by in
+      let same = c.see_blank.ensures.same in
+      let text : c.if-in_code.self.placing.builder.text ≡ old.placing.builder.text = search rules in
+      let bytes = ap (λ t. slice_range t c.args.line.start c.args.line.stop) text
+      ∙ ap (λ (left : LineLeft). left.bytes) by.is.left in
+      let quotes = blank_ends may.s old c.args.line c.args.reached may.before may.source c.see_blank.new.self.placed by
+      (λ some. c.see_blank.ensures.placed (ap (list_all is_space_or_tab) bytes ∙ some)) in
+      let sees : SeesBlank old c.args.line may.source c.see_blank.new.self.placed = record {
+        moves = λ some. c.see_blank.ensures.placed (ap (list_all is_space_or_tab) bytes ∙ some);
+        stays = λ white. c.see_blank.ensures.stays (ap (list_all is_space_or_tab) bytes ∙ white) ∙ before_it c;
+      } in
+      subst (λ (p : Pass). StandsFor may.s p c.args.line.next
+      (with_line may.s (blocks_before may.before) may.source)) (sym same)
+      (seen c may.s may.before may.source c.see_blank.new.self.placed by may.left may.off quotes sees);
+  tables = search rules;
+}

@@ -1,89 +1,128 @@
 -- The line is text, the delimiter row of a table, or what is left of it is read turn by turn.
-use Rattle.std.proofs.Common.{◌≡◌, List, ℕ, false, sym, subst}
+use Rattle.std.proofs.Common.{◌≡◌, ◌∙◌, List, ℕ, ap, false, sym, subst}
 use Rattle.std.specs.Str.{IsUtf8}
 use Rattle.std.proofs.lemmas.Result.{IfOk-weaker}
 use Rattle.markdown_base.specs.Source.{Source}
-use Rattle.markdown_lines.specs.SourceLines.{SourceLine, is_blank_rest}
 use Rattle.markdown_block_rules.specs.BlockGrowth.{with_line}
 use Rattle.markdown_plain.specs.declared.pass.Pass.{Pass}
 use Rattle.markdown_plain.specs.declared.beginnings.LineRest.{LineRest}
 use Rattle.markdown_plain.specs.declared.containers.Reached as code
 use Rattle.markdown_lines.specs.declared.line.Line.{Line}
-use Rattle.markdown_plain.specs.Beginning.{IsFirst, IsMadeOf, first}
+use Rattle.markdown_plain.specs.Beginning.{IsMadeOf, MayRead, first}
+use Rattle.markdown_plain.specs.Readable.{IsNoDelimiterRow, MayReadAsText, MayReadRest}
 use Rattle.markdown_plain.specs.TableHeads.{IfParagraphLast, IsUntabled}
-use Rattle.markdown_plain.specs.ReachedLines.{Before, IsReachedBy, blocks_before, reached_of}
+use Rattle.markdown_plain.specs.ReachedLines.{IsReachedBy, blocks_before, reached_of}
 use Rattle.markdown_plain.specs.Standing.{PlacesFor}
 use Rattle.markdown_plain.specs.TextLines.{IsTextFrom}
-use Rattle.markdown_plain.proofs.FirstTurnsLemmas.{LeafLeavesOff, first_turn}
+use Rattle.markdown_plain.proofs.TurnsLemmas.{first_turn}
+use Rattle.markdown_plain.proofs.ReadyLinesLemmas.{stop_read}
 use Rattle.markdown_plain.proofs.TextReachedLemmas.{text_reached}
-use Rattle.markdown_plain.proofs.UntabledTextsLemmas.{text_untabled}
+use Rattle.markdown_plain.proofs.UntabledLinesLemmas.{text_untabled}
 use Rattle.markdown_plain.proofs.pass.Pass.read_filled.Goals.{then-not-branch+in_ok-read_rest, else-not-branch}
 use Rattle.markdown_plain.proofs.pass.Pass.read_filled.Goals as goal
 
-shows : (c : goal.After-read_text_line)
-    → IsTextFrom c.args.self.now.placing.builder.text c.args.reached.position c.args.line.stop
-shows c =
-    subst (λ (text : List ℕ). IsTextFrom text c.args.reached.position c.args.line.stop) c.text.ensures
-    (c.is_text_from.ensures c.if-is_text_from.true)
+-- the line may be read as text, where its first byte shows that it is
+abbrev as_text : {text : List ℕ} {pass : Pass} {line : Line} {found : code.Reached}
+    → IsTextFrom pass.placing.builder.text found.position line.stop → IsUtf8 pass.placing.builder.text
+    → MayReadRest text pass line found false → MayReadAsText pass line found.position.at found.depth
+as_text {text} {pass} {line} {found} shows utf8 may = record {
+  s = may.s;
+  before = may.before;
+  source = may.source;
+  stands = may.by.stands;
+  is = may.by.is;
+  here = text_reached may.s pass line found may.before may.source utf8 may.by shows may.off;
+  untabled = text_untabled may.s pass line found may.before may.source may.by shows;
+}
 
-pub returns-then-is_text_from-clause-stands : goal.returns-then-is_text_from-clause-stands
-returns-then-is_text_from-clause-stands c =
-    IfOk-weaker c.read_text_line.result _ _ (λ done told s before source same by filled off.
-    told s before source by.stands by.is
-    (text_reached s c.args.self.now c.args.line c.args.reached before source
-    (subst IsUtf8 c.text.ensures c.text.utf8) by (shows c) off)
-    (text_untabled s c.args.self.now c.args.line c.args.reached before source by (shows c)))
-    c.read_text_line.ensures.stands
+pub returns-then-is_text_from-clause-reads : goal.returns-then-is_text_from-clause-reads
+returns-then-is_text_from-clause-reads c =
+    IfOk-weaker c.read_text_line.result _ _ (λ done told. record {
+      stands = λ may. told.stands (as_text
+          (subst (λ (text : List ℕ). IsTextFrom text c.args.reached.position c.args.line.stop) c.text.ensures
+          (c.is_text_from.ensures c.if-is_text_from.true)) (subst IsUtf8 c.text.ensures c.text.utf8) may);
+      tables = told.tables;
+    })
+    c.read_text_line.ensures
 
--- what is read turn by turn, where the line is no delimiter row
-module _ (s : Source) (old now : Pass) (line : Line) (found : code.Reached) (before : Before) (source : SourceLine)
-    (rest : LineRest) (utf8 : IsUtf8 old.placing.builder.text) (same : now ≡ record old { tried = now.tried })
-    (untabled : IfParagraphLast s (IsUntabled s now line.start (reached_of s before source)) before.last)
-    (by : IsReachedBy s old line found before source) (own : rest.line ≡ line) (made : IsMadeOf s now found rest)
-    (filled : is_blank_rest (reached_of s before source).rest ≡ false) (off : LeafLeavesOff s before source) where
-  begins_turn : IsFirst s now rest before source (reached_of s before source).rest
-      (with_line s (blocks_before before) source)
-  begins_turn =
-      first_turn s old now found before source rest same utf8
-      (subst (λ (l : Line). IfParagraphLast s (IsUntabled s now l.start (reached_of s before source)) before.last)
-      (sym own) untabled)
-      (subst (λ (l : Line). IsReachedBy s old l found before source) (sym own) by) made filled off
+pub read_text_line-requires : goal.read_text_line-requires
+read_text_line-requires c =
+    as_text (subst (λ (text : List ℕ). IsTextFrom text c.args.reached.position c.args.line.stop) c.text.ensures
+    (c.is_text_from.ensures c.if-is_text_from.true)) (subst IsUtf8 c.text.ensures c.text.utf8) c.requires
 
-pub returns-clause-stands : goal.returns-clause-stands
-returns-clause-stands c = λ s before source same by filled off.
-    let old = c.args.self.now in
-    let blocks = with_line s (blocks_before before) source in
-    let done : PlacesFor s c.if-not-branch.self c.args.line.next blocks =
-    elim c.if-not-branch.branch [
-      | then-not-branch+in_ok-read_rest w ↦
-          let row = c.in_ok-read_delimiter_row.ensures in
-          let none = w.if-not-branch.true in
-          let now = c.read_delimiter_row.new.self in
-          let turn = begins_turn s old now c.args.line c.args.reached before source w.rest_of-rest.result
-          (subst IsUtf8 c.text.ensures c.text.utf8) (row.same none) (row.untabled none s before source by) by
-          w.rest_of-rest.ensures.line (w.rest_of-rest.ensures.made s same) filled off in
-          let read = w.in_ok-read_rest.ensures.places s (first before source) (reached_of s before source).rest blocks
-          turn in
-          subst (λ (p : Pass). PlacesFor s p c.args.line.next blocks) (sym w.self-is)
-          (subst (λ (l : Line). PlacesFor s w.read_rest.new.self l.next blocks) w.rest_of-rest.ensures.line read)
-      | else-not-branch w ↦
-          let read = c.in_ok-read_delimiter_row.ensures.places w.if-not-branch.false s before source by filled in
-          subst (λ (p : Pass). PlacesFor s p c.args.line.next blocks) (sym w.self-is) read
-    ] in
-    c.see_content.ensures.stands s blocks done
+-- it may be read as the delimiter row of a table
+abbrev as_row : {text : List ℕ} {pass : Pass} {line : Line} {found : code.Reached}
+    → MayReadRest text pass line found false → MayReadRest pass.placing.builder.text pass line found false
+as_row {text} {pass} {line} {found} may = record {
+  s = may.s;
+  before = may.before;
+  source = may.source;
+  same = ap (λ (s : Source). s.text) may.by.stands.source;
+  by = may.by;
+  left = may.left;
+  off = may.off;
+}
+
+pub read_delimiter_row-requires : goal.read_delimiter_row-requires
+read_delimiter_row-requires c = as_row c.requires
+
+-- what is read turn by turn, where the line is none
+abbrev as_turns : {text : List ℕ} {old now : Pass} {line : Line} {found : code.Reached} {rest : LineRest}
+    → IsUtf8 old.placing.builder.text → IsNoDelimiterRow old line found now → rest.line ≡ line
+    → ((s : Source) → text ≡ s.text → IsMadeOf s now found rest) → MayReadRest text old line found false
+    → MayRead now rest
+as_turns {text} {old} {now} {line} {found} {rest} utf8 none own made may =
+    let s = may.s in
+    let before = may.before in
+    let source = may.source in
+    record {
+      s = s;
+      turn = first before source;
+      source = (reached_of s before source).rest;
+      blocks = with_line s (blocks_before before) source;
+      here = first_turn s old now found before source rest none.same utf8
+          (subst (λ (l : Line). IfParagraphLast s (IsUntabled s now l.start (reached_of s before source)) before.last)
+          (sym own) (none.untabled (as_row may)))
+          (subst (λ (l : Line). IsReachedBy s old l found before source) (sym own) may.by) (made s may.same) may.left
+          may.off;
+    }
+
+pub returns-clause-reads : goal.returns-clause-reads
+returns-clause-reads c = record {
+  stands = λ may.
+      let blocks = with_line may.s (blocks_before may.before) may.source in
+      let done : PlacesFor may.s c.if-not-branch.self c.args.line.next blocks =
+      elim c.if-not-branch.branch [
+        | then-not-branch+in_ok-read_rest w ↦
+            let read = w.in_ok-read_rest.ensures.begun (as_turns (subst IsUtf8 c.text.ensures c.text.utf8)
+            (c.in_ok-read_delimiter_row.ensures.none w.if-not-branch.true) w.rest_of-rest.ensures.line
+            w.rest_of-rest.ensures.made may) in
+            subst (λ (p : Pass). PlacesFor may.s p c.args.line.next blocks) (sym w.self-is)
+            (subst (λ (l : Line). PlacesFor may.s w.read_rest.new.self l.next blocks) w.rest_of-rest.ensures.line read)
+        | else-not-branch w ↦
+            subst (λ (p : Pass). PlacesFor may.s p c.args.line.next blocks) (sym w.self-is)
+            ((c.in_ok-read_delimiter_row.ensures.row w.if-not-branch.false).places (as_row may))
+      ] in
+      c.see_content.ensures.stands may.s blocks done;
+  tables =
+      let now : c.if-not-branch.self.tables ≡ c.args.self.now.tables =
+      elim c.if-not-branch.branch [
+        | then-not-branch+in_ok-read_rest w ↦
+            ap (λ (p : Pass). p.tables) w.self-is ∙ (w.in_ok-read_rest.ensures.tables
+            ∙ ap (λ (p : Pass). p.tables) (c.in_ok-read_delimiter_row.ensures.none w.if-not-branch.true).same)
+        | else-not-branch w ↦
+            ap (λ (p : Pass). p.tables) w.self-is
+            ∙ (c.in_ok-read_delimiter_row.ensures.row w.if-not-branch.false).tables
+      ] in
+      c.see_content.ensures.tables ∙ now;
+}
 
 pub read_rest-requires : goal.read_rest-requires
 read_rest-requires c =
-    let may = c.requires.may in
-    let row = c.in_ok-read_delimiter_row.ensures in
-    let none = c.if-not-branch.true in
-    record {
-      s = may.s;
-      turn = first may.before may.source;
-      source = (reached_of may.s may.before may.source).rest;
-      blocks = with_line may.s (blocks_before may.before) may.source;
-      here = begins_turn may.s c.args.self.now c.read_delimiter_row.new.self c.args.line c.args.reached may.before
-          may.source c.rest_of-rest.result (subst IsUtf8 c.text.ensures c.text.utf8) (row.same none)
-          (row.untabled none may.s may.before may.source may.by) may.by c.rest_of-rest.ensures.line
-          (c.rest_of-rest.ensures.made may.s may.same) may.left may.off;
-    }
+    as_turns (subst IsUtf8 c.text.ensures c.text.utf8)
+    (c.in_ok-read_delimiter_row.ensures.none c.if-not-branch.true) c.rest_of-rest.ensures.line
+    c.rest_of-rest.ensures.made c.requires
+
+pub rest_of-rest-requires : goal.rest_of-rest-requires
+rest_of-rest-requires c =
+    stop_read c.args.self.now c.args.line c.requires.same c.requires.by.stands.source c.requires.by.is.from
