@@ -26,7 +26,7 @@ use Rattle.markdown_plain.specs.Frames.{AreNested, Frame, forgotten, innermost_i
 use Rattle.markdown_plain.specs.Frames.{room_depth}
 use Rattle.markdown_plain.specs.Settled.{AreOpen, IsBodyOf, IsBuilt, IsOpen, levels_shown}
 use Rattle.markdown_plain.specs.OpenedFrames.{is_list_for, quote_kind, with_frame, with_item, with_list}
-use Rattle.markdown_plain.specs.NewContainers.{is_list_of}
+use Rattle.markdown_plain.specs.OpenBlocks.{is_list_of}
 use Rattle.markdown_plain.specs.OpenBlocks as own
 use Rattle.markdown_plain.proofs.AppendedBlocksLemmas.{definitions_appended, footnotes_appended, open_after}
 use Rattle.markdown_plain.proofs.ClosedFramesLemmas.{as_many_open, last_kept, levels_parted}

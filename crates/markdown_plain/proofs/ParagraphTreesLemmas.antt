@@ -26,9 +26,10 @@ use Rattle.markdown_block_rules.specs.LineContents.{lines_items}
 use Rattle.markdown_plain.proofs.ParagraphLinesLemmas.{cut_after_task, no_content, on_false, some_left}
 use Rattle.markdown_plain.proofs.ParagraphLinesLemmas.{if_some, marker_before_brace, range_byte}
 use Rattle.markdown_plain.proofs.LeafTreesLemmas.{no_text, texts_after}
+use Rattle.markdown_plain.specs.LeafTrees.{Appends}
 use Rattle.markdown_plain.specs.Fitting.{extended, stepped, BracesStand}
 use Rattle.markdown_plain.specs.LeafTrees.{HasItems}
-use Rattle.markdown_plain.specs.ParagraphSteps.{Appends, AppendsWhole}
+use Rattle.markdown_plain.specs.ParagraphSteps.{AppendsWhole}
 use Rattle.markdown_plain.specs.HeldSources.{AreTextLines, IsTextLine}
 use Rattle.markdown_plain.specs.ParagraphItems.{IsLeft, OpenInLast, after_task, line_or_nothing, task_items, text_items}
 use Rattle.markdown_plain.specs.ParagraphItems.{BeginWithTask, heading_braces}

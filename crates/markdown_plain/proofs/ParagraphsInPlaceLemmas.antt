@@ -22,12 +22,13 @@ use Rattle.markdown_block_rules.specs.BlockRules.{Around, block_end, definitions
 use Rattle.markdown_block_rules.specs.BlockRules.{is_blank_block, label_of, paragraph_body, paragraph_lines}
 use Rattle.markdown_block_rules.specs.BlockRules.{shown_block, shown_blocks, shown_setext, shown_text, before_braces}
 use Rattle.markdown_block_rules.specs.BlockRules.{last_braces, paragraph_items, shown_heading}
+use Rattle.markdown_plain.specs.LeafTrees.{Appends}
 use Rattle.markdown_plain.specs.declared.pass.Pass.{Pass}
 use Rattle.markdown_plain.specs.Frames.{Frame}
 use Rattle.markdown_plain.specs.LeafTrees.{HasMoreTexts, HasTrees, HasItems}
 use Rattle.markdown_plain.specs.OpenLeaves.{HoldsParagraph, IsPlaced, ended_block, leaf_block}
 use Rattle.markdown_plain.specs.OpenedFrames.{around_innermost}
-use Rattle.markdown_plain.specs.ParagraphSteps.{EndsTo, ended_at, Appends, PlacesLines, TakesLines}
+use Rattle.markdown_plain.specs.ParagraphSteps.{EndsTo, ended_at, PlacesLines, TakesLines}
 use Rattle.markdown_plain.specs.Paragraphs.{divided_of, lines_end, paragraph_end, shown_ended, source_of, IsPlacedTo}
 use Rattle.markdown_plain.specs.Paragraphs.{first_task, task_left, EndsFrom, past}
 use Rattle.markdown_plain.specs.Settled.{IsBuilt, around_in, placed_end}

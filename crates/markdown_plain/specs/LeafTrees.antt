@@ -21,6 +21,11 @@ pub record HasMoreTexts (old new : BuilderView) : Type 0 where
   pub more : List (List ℕ)
   pub are : new.texts ≡ old.texts ++ more
 
+-- items were appended to the open leaf, up to a byte offset, and the texts that they refer to
+pub record Appends (old new : BuilderView) (to : ℕ) : Type 0 where
+  pub goes_on : GoesOn old new to
+  pub texts : HasMoreTexts old new
+
 -- lines were appended to the open leaf, as items with a body
 pub record AddsLines (old new : BuilderView) (body : ItemBody) (lines : List HeldLine) : Type 0 where
   pub goes_on : GoesOn old new (after_lines old.at lines)

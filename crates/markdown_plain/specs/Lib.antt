@@ -13,7 +13,6 @@ pub mod Paragraphs
 pub mod TakenDefinitions
 pub mod Stretches
 pub mod Containers
-pub mod NewContainers
 pub mod ParagraphItems
 pub mod Closable
 pub mod ParagraphSteps

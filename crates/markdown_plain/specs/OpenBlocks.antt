@@ -1,5 +1,5 @@
 -- The open blocks, the outermost first: the innermost of them, and those outside it.
-use Rattle.std.specs.Prelude.{◌≡◌, ℕ, Bool, true, false, ◌||◌, List, [], ◌∷◌, ◌++◌, take}
+use Rattle.std.specs.Prelude.{◌≡◌, ℕ, Bool, true, false, ◌==◌, ◌||◌, List, [], ◌∷◌, ◌++◌, take}
 use Rattle.std.specs.Prelude.{if◌then◌else◌}
 use Rattle.std.specs.Option.{option_map_or}
 use Rattle.markdown_base.specs.declared.item.ItemBody.{ItemBody}
@@ -17,6 +17,11 @@ outer_of (block ∷ inner ∷ blocks) = block ∷ outer_of (inner ∷ blocks)
 abbrev pub is_list : ItemBody → Bool
 is_list (body.List tight character first) = true
 is_list other = false
+
+-- the body is that of a list whose markers have this character
+abbrev pub is_list_of : ℕ → ItemBody → Bool
+is_list_of character (body.List tight other first) = other == character
+is_list_of character other = false
 
 -- the body is that of a block quote
 abbrev pub is_quote : ItemBody → Bool

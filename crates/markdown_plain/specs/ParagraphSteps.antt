@@ -9,9 +9,9 @@ use Rattle.markdown_lines.specs.SourceLines.{SourceLine}
 use Rattle.markdown_lines.specs.declared.held_line.HeldLine.{HeldLine}
 use Rattle.markdown_lines.specs.declared.line.Line.{Line}
 use Rattle.markdown_plain.specs.Closable.{AreAhead, EndsHeading, HaveTask, IsInText, IsLeafOpen}
-use Rattle.markdown_plain.specs.Fitting.{GoesOn, defining}
+use Rattle.markdown_plain.specs.Fitting.{defining}
 use Rattle.markdown_plain.specs.HeldSources.{AreTextLines, IsTextLine}
-use Rattle.markdown_plain.specs.LeafTrees.{HasItems, HasMoreTexts, HasTrees}
+use Rattle.markdown_plain.specs.LeafTrees.{HasItems, HasTrees}
 use Rattle.markdown_plain.specs.ParagraphItems.{AreSome, after_task, task_items}
 use Rattle.markdown_plain.specs.Paragraphs.{first_task, paragraph_end, past, shown_ended, source_of, task_left}
 use Rattle.markdown_plain.specs.declared.pass.Pass.{Pass}
@@ -27,11 +27,6 @@ pub record HasRoomForLine (builder : BuilderView) (held : HeldLine) : Type 0 whe
   pub inside : IsLeafOpen builder
   pub ahead : builder.at ≤ held.start
   pub line : IsInText builder.text held
-
--- items were appended to the open leaf, up to a byte offset, and the texts that they refer to
-pub record Appends (old new : BuilderView) (to : ℕ) : Type 0 where
-  pub goes_on : GoesOn old new to
-  pub texts : HasMoreTexts old new
 
 -- these items were appended to the open leaf, and no delimiter run is at their end that may go on
 pub record AppendsWhole (old new : BuilderView) (more : List Shown) : Type 0 where

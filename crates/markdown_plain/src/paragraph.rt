@@ -15,10 +15,10 @@ ghost use Rattle.markdown_plain.specs.Paragraphs.{paragraph_end, task_left, divi
 ghost use Rattle.markdown_plain.specs.Paragraphs.{task_at, IsDivided, IsPlacedTo};
 ghost use Rattle.markdown_plain.specs.Paragraphs.{UnderlinesNothing};
 ghost use Rattle.markdown_plain.specs.HeldSources.{IsParagraph, AreTextLines, IsTextLine};
-ghost use Rattle.markdown_plain.specs.LeafTrees.{HasItems, HasMoreTexts};
+ghost use Rattle.markdown_plain.specs.LeafTrees.{Appends, HasItems, HasMoreTexts};
 ghost use Rattle.markdown_plain.specs.ParagraphItems.{heading_braces, line_or_nothing};
 ghost use Rattle.markdown_plain.specs.ParagraphItems.{text_items, BeginsWithTask, HaveEnds, IsLeft};
-ghost use Rattle.markdown_plain.specs.ParagraphSteps.{Appends, AppendsWhole, BeginsLine, EndsTo};
+ghost use Rattle.markdown_plain.specs.ParagraphSteps.{AppendsWhole, BeginsLine, EndsTo};
 ghost use Rattle.markdown_plain.specs.ParagraphSteps.{HasRoomForLine, MayEndParagraph, PlacesLines};
 ghost use Rattle.markdown_plain.specs.ParagraphSteps.{TakesLines, ended_at};
 ghost use Rattle.markdown_base.specs.Forest.{Forest, nil};

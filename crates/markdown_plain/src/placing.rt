@@ -49,9 +49,8 @@ impl<'a> Placing<'a> {
     ghost use Rattle.markdown_plain.specs.Fitting.{IsAhead};
     ghost use Rattle.markdown_plain.specs.Fitting.{BeginsAtContent, GoesOn, HasBody, PutsBlock, closed, defining, stepped};
     ghost use Rattle.markdown_plain.specs.Fits.{HasContent, MayStep};
-    ghost use Rattle.markdown_plain.specs.LeafTrees.{HasMoreTexts};
+    ghost use Rattle.markdown_plain.specs.LeafTrees.{Appends};
     ghost use Rattle.markdown_builder.specs.EvenRows.{is_in_row};
-    ghost use Rattle.markdown_items.specs.ContentItems.{AddsItems};
 
     /// Returns a builder that has made nothing yet.
     pub fn new(alloc: Global, text: &'a str, old: bool) -> Result<Placing<'a>, AllocError>
@@ -286,8 +285,7 @@ impl<'a> Placing<'a> {
     pub fn add_items(&mut self, end: usize, syntax: Syntax) -> Result<(), AllocError>
         requires inside { self.old.builder.leaf ≡ true }
         requires ahead { IsAhead self.old.builder end }
-        ensures text { IfOk result (λ _. self.new.builder.text ≡ self.old.builder.text) }
-        ensures appends { IfOk result (λ _. GoesOn self.old.builder self.new.builder end) }
+        ensures appends { IfOk result (λ _. Appends self.old.builder self.new.builder end) }
         ensures items { IfOk result (λ _. self.old.builder.run ≡ None → self.new.builder.levels
             ≡ with_items self.old.builder.levels (content_items self.old.builder.text
             (item_syntax syntax) self.old.builder.at end)) }
@@ -297,8 +295,6 @@ impl<'a> Placing<'a> {
             end)) }
         ensures over { IfOk result (λ _. HasSpecialRun (item_syntax syntax) self.old.builder
             → HasSpecialRun (item_syntax syntax) self.new.builder) }
-        ensures inside { IfOk result (λ _. AddsItems self.old.builder self.new.builder) }
-        ensures texts { IfOk result (λ _. HasMoreTexts self.old.builder self.new.builder) }
     {
         match items(&mut self.builder, self.alloc, end, syntax) {
             Ok(()) => Ok(()),

@@ -28,9 +28,8 @@ returns-then-line-clause-items c = λ source is run at.
 
 pub returns-clause-appends : goal.returns-clause-appends
 returns-clause-appends c =
-    let read = c.in_ok-add_items.ensures in
     IfOk-weaker c.add_inline.result _ _ (λ done appends. appends_twice (appends_twice
-    (record { goes_on = read.appends; texts = read.texts }) (step_appends c.step_to-2.ensures.steps))
+    c.in_ok-add_items.ensures.appends (step_appends c.step_to-2.ensures.steps))
     (item_appends appends)) c.add_inline.ensures.appends
 
 pub returns-clause-items : goal.returns-clause-items
@@ -87,12 +86,12 @@ step_to-requires-2 c =
     let old = c.args.placing.now.builder in
     let between = break_of old.text c.text-text.result.now c.args.line c.line_break-between.result c.text-text.ensures
     c.requires.line c.line_break-between.ensures.value in
-    let read = c.in_ok-add_items.ensures.appends in
+    let read = c.in_ok-add_items.ensures.appends.goes_on in
     let begun = still_open old c.add_items.new.self.builder (ap (λ (b : BuilderView). b.leaf) read)
     (ap (λ (b : BuilderView). b.blocks) read) c.requires.inside in
     record {
       ahead = ahead_of old.text c.line_break-between.result.text_end _ c.add_items.new.self.builder
-          c.in_ok-add_items.ensures.text (ap (λ (b : BuilderView). b.at) read) between.ordered between.start;
+          (ap (λ (b : BuilderView). b.text) read) (ap (λ (b : BuilderView). b.at) read) between.ordered between.start;
       white = inside_leaf _ _ begun;
     }
 
@@ -102,7 +101,7 @@ add_inline-requires c =
     let line = c.requires.line in
     let between = break_of old.text c.text-text.result.now c.args.line c.line_break-between.result c.text-text.ensures
     line c.line_break-between.ensures.value in
-    let read = c.in_ok-add_items.ensures.appends in
+    let read = c.in_ok-add_items.ensures.appends.goes_on in
     let stepped = c.step_to-2.ensures.steps in
     record {
       settled = c.line_break-between.ensures.settled;

@@ -28,11 +28,11 @@ step_to-requires c =
     let to = (trimmed old.text line c.trimmed_length.result c.requires.line size).high in
     let next = c.requires.line.next in
     let end : c.saturating_add-end.result ≡ line.start + c.trimmed_length.result = search rules in
-    let read = c.in_ok-add_items.ensures.appends in
+    let read = c.in_ok-add_items.ensures.appends.goes_on in
     let begun = still_open old c.add_items.new.self.builder (ap (λ (b : BuilderView). b.leaf) read)
     (ap (λ (b : BuilderView). b.blocks) read) c.requires.inside in
     record {
       ahead = ahead_of old.text c.saturating_add-end.result _ c.add_items.new.self.builder
-          c.in_ok-add_items.ensures.text (ap (λ (b : BuilderView). b.at) read) (omega (arith, end, to)) next;
+          (ap (λ (b : BuilderView). b.text) read) (ap (λ (b : BuilderView). b.at) read) (omega (arith, end, to)) next;
       white = inside_leaf _ _ begun;
     }

@@ -11,9 +11,9 @@ use Rattle.markdown_plain.proofs.ParagraphLinesLemmas.{cut_line, open_after_task
 use Rattle.markdown_plain.proofs.DividedLemmas.{as_many}
 use Rattle.markdown_plain.proofs.ParagraphTreesLemmas.{appends_twice, broken_line_left, got, last_line_left}
 use Rattle.markdown_plain.proofs.ParagraphTreesLemmas.{none_behind, some_behind, takes_line}
+use Rattle.markdown_plain.specs.LeafTrees.{Appends}
 use Rattle.markdown_plain.specs.HeldSources.{IsTextLine}
 use Rattle.markdown_plain.specs.ParagraphItems.{IsLeft, after_task}
-use Rattle.markdown_plain.specs.ParagraphSteps.{Appends}
 use Rattle.markdown_plain.proofs.ClosableLemmas.{last_cut, line_at}
 use Rattle.markdown_plain.specs.Closable.{IsLastInText}
 use Rattle.markdown_plain.proofs.paragraph.add_line.Goals as goal

@@ -8,7 +8,7 @@ use Rattle.markdown_plain.proofs.DividedLemmas.{as_many}
 use Rattle.markdown_plain.proofs.ParagraphTreesLemmas.{appends_twice, got, none_behind, nothing_left}
 use Rattle.markdown_plain.proofs.paragraph.add_lines.Goals.{then-number-from, else-number-from}
 use Rattle.markdown_builder.specs.BuilderView.{BuilderView}
-use Rattle.markdown_plain.specs.ParagraphSteps.{Appends}
+use Rattle.markdown_plain.specs.LeafTrees.{Appends}
 use Rattle.markdown_plain.specs.Paragraphs.{end_of}
 use Rattle.markdown_lines.specs.declared.held_line.HeldLine.{HeldLine}
 use Rattle.markdown_plain.proofs.ClosableLemmas.{room_after}

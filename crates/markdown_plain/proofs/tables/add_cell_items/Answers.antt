@@ -75,7 +75,7 @@ pieces-preserved c =
       texts =
           texts_after _ c.pieces.placing.builder _ c.pieces.invariant.texts
           (texts_after _ c.step_to.new.self.builder _
-          (no_text _ _ (ap (λ (v : BuilderView). v.texts) c.step_to.ensures.steps)) c.in_ok-add_items.ensures.texts);
+          (no_text _ _ (ap (λ (v : BuilderView). v.texts) c.step_to.ensures.steps)) c.in_ok-add_items.ensures.appends.texts);
       whole = λ once more. elim c.if-escapes.branch [
         | then-escapes w ↦ absurd (true≢false (sym w.if-escapes.true ∙ once))
         | else-escapes w ↦ absurd (omega (arith, w.length-is, there, past, more))
@@ -94,12 +94,13 @@ pieces-preserved c =
           ] in
           piece_placed (item_syntax c.args.syntax) _ view c.step_to.new.self.builder c.add_items.new.self.builder from
           to stop next less (subst (λ (t : List ℕ). to ≤ length t) (sym same) c.requires.cell.to.0)
-          (c.pieces.invariant.items once none) c.step_to.ensures.steps c.in_ok-add_items.ensures.appends
+          (c.pieces.invariant.items once none) c.step_to.ensures.steps
+          c.in_ok-add_items.ensures.appends.goes_on
           c.in_ok-add_items.ensures.further c.in_ok-add_items.ensures.over (there ∙ ap (λ n. from + n) size) after past;
       may =
           let cut = piece (goal.at.pieces-preserved c).After-saturating_add-end in
           piece_added text c.step_to.new.self.builder c.add_items.new.self.builder to stop next cut.high
-          (piece_cut text from to stop next c.requires.cell.to cut after past) c.in_ok-add_items.ensures.appends;
+          (piece_cut text from to stop next c.requires.cell.to cut after past) c.in_ok-add_items.ensures.appends.goes_on;
     }
 
 -- the next piece fits

@@ -49,7 +49,7 @@ pub step_to-requires-2 : goal.step_to-requires-2
 step_to-requires-2 c =
     step_at _ _ c.args.line.next c.add_items.new.self.builder
     (filled_to c.args.self.now.placing.builder c.open_heading.new.placing.builder _ _ c.args.heading.level _ _
-    c.in_ok-open_heading.ensures.opens c.step_to.ensures.steps c.in_ok-add_items.ensures.appends) c.requires.within
+    c.in_ok-open_heading.ensures.opens c.step_to.ensures.steps c.in_ok-add_items.ensures.appends.goes_on) c.requires.within
     c.requires.next
 
 pub close-requires : goal.close-requires
@@ -57,7 +57,7 @@ close-requires c =
     let end = stepped_at _ _ c.args.line.next _ c.step_to-2.new.self.builder c.step_to-2.ensures.steps
     (filled_to c.args.self.now.placing.builder c.open_heading.new.placing.builder c.step_to.new.self.builder
     c.add_items.new.self.builder c.args.heading.level _ _ c.in_ok-open_heading.ensures.opens c.step_to.ensures.steps
-    c.in_ok-add_items.ensures.appends) in
+    c.in_ok-add_items.ensures.appends.goes_on) in
     record { some = end.inside.some; other = end.inside.plain }
 
 pub returns-clause-leaf : goal.returns-clause-leaf
@@ -68,15 +68,16 @@ returns-clause-leaf c = λ stand s frames inside b built syntax kind start last.
     let heading = c.args.heading in
     let first = c.step_to.ensures.steps in
     let filled = c.in_ok-add_items.ensures in
+    let more = filled.appends.texts in
     let run : c.step_to.new.self.builder.run ≡ None = search rules in
     let text : opened.text ≡ old.text = search rules in
     let end : now.at ≡ c.args.line.next = search rules in
     let syntax_now = item_syntax c.args.self.now.syntax in
     let puts : PutsItems opened now (content_items old.text syntax_now heading.from heading.to) = record {
-      goes_on = rw (c.step_to-2.ensures.steps, filled.appends, first) refl;
+      goes_on = rw (c.step_to-2.ensures.steps, filled.appends.goes_on, first) refl;
       texts = record {
-        more = filled.texts.more;
-        are = rw c.step_to-2.ensures.steps (rw first at filled.texts.are);
+        more = more.more;
+        are = rw c.step_to-2.ensures.steps (rw first at more.are);
       };
       added = rw c.step_to-2.ensures.steps (rw text at (rw first at (filled.items run)));
     } in

@@ -14,7 +14,7 @@ use Rattle.markdown_base.specs.Source.{Source}
 use Rattle.markdown_block_rules.specs.BlockGrowth.{Block, list_container}
 use Rattle.markdown_plain.specs.Frames.{AreNested, Frame, innermost_is, is_item, is_list, rebuilt, room_depth}
 use Rattle.markdown_plain.specs.OpenedFrames.{with_frame, with_list}
-use Rattle.markdown_plain.specs.NewContainers.{is_list_of}
+use Rattle.markdown_plain.specs.OpenBlocks.{is_list_of}
 use Rattle.markdown_plain.specs.OpenBlocks as own
 use Rattle.markdown_plain.specs.PassSteps.{HasList, HasOnly, between, opened}
 use Rattle.markdown_plain.specs.Settled.{AreOpen, BlanksKnown, IsLooseAs}

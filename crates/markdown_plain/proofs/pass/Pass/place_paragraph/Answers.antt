@@ -8,12 +8,12 @@ use Rattle.markdown_lines.specs.SourceLines.{SourceLine}
 use Rattle.markdown_lines.specs.declared.held_line.HeldLine.{HeldLine}
 use Rattle.std.specs.Str.{IsCharBoundary}
 use Rattle.markdown_block_rules.specs.BlockRules.{before_braces}
+use Rattle.markdown_plain.specs.LeafTrees.{Appends}
 use Rattle.markdown_plain.specs.Fitting.{OpensHeadingOf, PutsBlock, closed, stepped}
 use Rattle.markdown_plain.specs.HeldSources.{AreTextLines}
 use Rattle.markdown_plain.specs.LeafTrees.{HasItems, HasTrees}
 use Rattle.markdown_plain.specs.ParagraphItems.{OpenInLast, heading_braces, text_items}
 use Rattle.markdown_plain.specs.Paragraphs.{first_task, lines_end, paragraph_end, shown_ended, source_of}
-use Rattle.markdown_plain.specs.ParagraphSteps.{Appends}
 use Rattle.markdown_plain.proofs.ClosableLemmas.{IsTextOpened, first_line, text_opened}
 use Rattle.markdown_plain.proofs.FittingLemmas.{may_step}
 use Rattle.markdown_plain.proofs.ParagraphTreesLemmas.{begin_first, heading_open}
