@@ -9,14 +9,11 @@ use Rattle.std.specs.Prelude.{if◌then◌else◌, not}
 use Rattle.markdown_base.specs.Forest.{Forest, nil, node}
 use Rattle.markdown_base.specs.declared.tag.Alignment.{Alignment}
 use Rattle.markdown_lines.specs.declared.list_marker.ListMarker.{ListMarker}
-use Rattle.markdown_lines.specs.declared.block_start.Before.TheVariants as paragraph
-use Rattle.markdown_lines.specs.BlockBeginnings as line
 use Rattle.markdown_base.specs.Source.{Source}
 use Rattle.markdown_lines.specs.BlockBeginnings.{Beginning, begins}
 use Rattle.markdown_lines.specs.SourceLines.{SourceLine, is_blank_rest}
 use Rattle.markdown_scan.specs.LineStart.{LineLeft}
 use Rattle.markdown_builder.specs.TreeLevels.{followed_by}
-use Rattle.markdown_block_rules.specs.BlockGrowth as was
 use Rattle.markdown_block_rules.specs.BlockGrowth.{Block, Kind, added_in, another_item, begun_by, begun_in, goes_on}
 use Rattle.markdown_block_rules.specs.BlockGrowth.{inside_of, is_nil, line_block, new_blocks, next_item, with_line}
 use Rattle.markdown_block_rules.specs.BlockGrowth.{with_next_line}
@@ -36,10 +33,13 @@ use Rattle.markdown_plain.specs.OpenLeaves.{is_table, leaf_block}
 use Rattle.markdown_plain.specs.ReachedLines.{Before, blocks_before}
 use Rattle.markdown_plain.specs.Standing.{HasLast, Stands, with_last}
 use Rattle.markdown_plain.specs.TableRows.{IsCounted, ends_ended, is_ended_table}
+use Rattle.markdown_lines.specs.declared.block_start.Before.TheVariants as paragraph
+use Rattle.markdown_lines.specs.BlockBeginnings as line
+use Rattle.markdown_block_rules.specs.BlockGrowth as was
 use Rattle.markdown_plain.proofs.FramesLemmas.{HasMarker, Innermost, innermost_apart, marker_of_list, outer_containers}
-use Rattle.markdown_plain.proofs.FramesLemmas.{rebuilt_more}
-use Rattle.markdown_plain.proofs.LastBlocksLemmas.{nothing_goes_on, open_are_containers}
-use Rattle.markdown_plain.proofs.ReachedLemmas.{block_begins, item_begins, list_ends, reached_parts, reached_same}
+use Rattle.markdown_plain.proofs.FramesLemmas.{rebuilt_more, block_begins, item_begins, list_ends, reached_parts}
+use Rattle.markdown_plain.proofs.FramesLemmas.{reached_same}
+use Rattle.markdown_plain.proofs.ReachedFramesLemmas.{nothing_goes_on, open_are_containers}
 
 -- ---- cells that are added to the rows of blocks
 

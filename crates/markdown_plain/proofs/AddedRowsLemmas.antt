@@ -1,74 +1,255 @@
--- A line at which a table is open: a row is added to it where there is room, and otherwise the table ends.
-use Rattle.std.proofs.Common.{◌≡◌, ℕ, ◌+◌, ◌-◌, ◌≤◌, Bool, true, false, not, ◌&&◌, ◌==◌, List, [], ◌∷◌, ◌++◌, Option}
-use Rattle.std.proofs.Common.{Some, None, length, nat_le, refl, sym, ap, ◌∙◌, subst, arith, true≢false, map}
+-- A line at which a table is open: whether it is a row, which is added to the table where there is room, and
+-- otherwise the table ends.
+use Rattle.std.proofs.Common.{◌≡◌, ℕ, ◌+◌, ◌<◌, ◌≤◌, Bool, false, ◌&&◌, ◌==◌, List, [], ◌∷◌, Option, Some, None, length}
+use Rattle.std.proofs.Common.{get_or, refl, sym, ap, ◌∙◌, subst, arith, ◌-◌, true, not, ◌++◌, nat_le, true≢false, map}
+use Rattle.std.proofs.lemmas.Option.{none-some, same_Some}
+use Rattle.std.specs.List.{list_all, prefix_len}
+use Rattle.std.specs.Prelude.{if◌then◌else◌, slice_range, nat_lt, slice_get, unwrap_or}
+use Rattle.std.specs.Str.{IsCharBoundary}
 use Rattle.std.proofs.lemmas.Bool.Decides.{nat_tests}
-use Rattle.std.specs.Prelude.{if◌then◌else◌, nat_lt, slice_get, unwrap_or}
 use Rattle.std.proofs.lemmas.Bool.{and_parts, not-false, or_parts}
+use Rattle.std.specs.Option.{option_map_or}
+use Rattle.markdown_base.proofs.ByteListLemmas.{part_length}
+use Rattle.markdown_lines.specs.declared.block_start.BlockStart.{BlockStart}
+use Rattle.markdown_lines.specs.declared.line.Line.{Line}
+use Rattle.markdown_lines.specs.declared.line_reader.LineReader.{LineReader}
+use Rattle.markdown_lines.specs.declared.position.Position.{Position}
+use Rattle.markdown_base.specs.Source.{Source}
+use Rattle.markdown_lines.specs.BlockBeginnings.{Beginning, begins}
+use Rattle.markdown_lines.specs.BlockStarts.{begins_unless_blank, beginning_found, left_at, line_at, source_read}
+use Rattle.markdown_lines.specs.Lines.{is_space_or_tab}
+use Rattle.markdown_lines.specs.SourceLines.{SourceLine, is_blank_rest, text_line}
+use Rattle.markdown_lines.specs.TableRows.{row_cells, row_cells_at}
+use Rattle.markdown_lines.proofs.PositionsLemmas.{in_part}
+use Rattle.markdown_block_rules.specs.BlockGrowth.{content_of, Block, Kind, added_in, goes_on, leaf_with, with_line}
+use Rattle.markdown_block_rules.specs.BlockGrowth.{with_ended_table, with_next_line, is_nil, table_ended}
+use Rattle.markdown_block_rules.specs.TableLines.{cells_of, is_text_beginning, all_added, cells_added, is_row}
+use Rattle.markdown_block_rules.specs.TableLines.{most_added, reads_tables}
+use Rattle.markdown_plain.specs.declared.pass.Pass.{Pass}
+use Rattle.markdown_plain.specs.Closable.{IsInText}
+use Rattle.markdown_plain.specs.HeldSources.{IsTextLine}
+use Rattle.markdown_plain.specs.ReachedLines.{Before, IsReachedBy, blocks_in, reached_of, GoesOffAs, blocks_before}
+use Rattle.markdown_plain.specs.TableRows.{is_text_start, AddsRow, IsCounted, MayAddRow, PutsTrees, ends_ended}
+use Rattle.markdown_plain.specs.TableRows.{is_ended_table, may_be_row}
+use Rattle.markdown_plain.specs.TextLines.{IsContentAt, held_line}
 use Rattle.markdown_base.specs.Forest.{Forest, nil, node}
-use Rattle.markdown_base.specs.declared.item.ItemBody.TheVariants as body
 use Rattle.markdown_base.specs.declared.tag.Alignment.{Alignment}
 use Rattle.markdown_builder.specs.EvenRows.{open_columns}
 use Rattle.markdown_builder.specs.TreeLevels.{followed_by, with_trees}
 use Rattle.markdown_builder.specs.declared.open_block.OpenBlock.{OpenBlock}
-use Rattle.markdown_lines.specs.declared.block_start.Before.TheVariants as paragraph
-use Rattle.markdown_lines.specs.declared.line.Line.{Line}
-use Rattle.markdown_base.specs.Source.{Source}
-use Rattle.markdown_lines.specs.BlockBeginnings.{begins}
-use Rattle.markdown_lines.specs.SourceLines.{SourceLine, is_blank_rest, text_line}
-use Rattle.markdown_block_rules.specs.BlockGrowth as was
-use Rattle.markdown_block_rules.specs.BlockGrowth.{Block, Kind, added_in, goes_on, leaf_with, with_line}
-use Rattle.markdown_block_rules.specs.BlockGrowth.{with_ended_table, with_next_line, is_nil, table_ended}
 use Rattle.markdown_block_rules.specs.BlockRules.{shown_row, Around, in_no_item, is_blank_block, shown_blocks}
 use Rattle.markdown_block_rules.specs.BlockRules.{shown_rows, block_end, block_ends_blank, ends_blank}
-use Rattle.markdown_block_rules.specs.TableLines.{all_added, cells_added, cells_of, is_row, is_text_beginning}
-use Rattle.markdown_block_rules.specs.TableLines.{most_added, reads_tables}
 use Rattle.markdown_block_rules.proofs.AddedCellsLemmas.{ended_same}
-use Rattle.markdown_plain.specs.declared.containers.Reached as code
-use Rattle.markdown_plain.specs.declared.pass.Pass.{Pass}
 use Rattle.markdown_plain.specs.Closing.{MayEnd, AreItemsInLists, MayBeIn}
 use Rattle.markdown_plain.specs.Frames.{AreContainers, Frame, rebuilt, touched, IsContainer, Reached, inside_container}
 use Rattle.markdown_plain.specs.Frames.{is_list, reached, reached_past}
-use Rattle.markdown_plain.specs.OpenBlocks as by_body
 use Rattle.markdown_plain.specs.OpenBlocks.{innermost_is}
 use Rattle.markdown_plain.specs.OpenLeaves.{is_table, leaf_block, IsOpenIn, is_leaf}
 use Rattle.markdown_plain.specs.Paragraphs.{source_of, lines_end}
-use Rattle.markdown_plain.specs.ReachedLines.{Before, GoesOffAs, IsReachedBy, blocks_before, reached_of}
 use Rattle.markdown_plain.specs.ReachedTables.{ReachesTable}
 use Rattle.markdown_plain.specs.Standing.{HasLast, KnowsLast, PlacesFor, HoldsBlanks, PlacesLast, Stands}
-use Rattle.markdown_plain.specs.TableRows.{AddsRow, IsCounted, MayAddRow, PutsTrees, ends_ended, is_ended_table}
-use Rattle.markdown_plain.specs.TableRows.{may_be_row}
-use Rattle.markdown_plain.specs.TextLines.{held_line}
-use Rattle.markdown_plain.proofs.AddedCellsLemmas.{AreFrames, added_inside, added_touched, begun_leaves, begun_same}
-use Rattle.markdown_plain.proofs.AddedCellsLemmas.{BlocksBegin, blocks_begin, ended_followed, ended_inside, frames_of}
-use Rattle.markdown_plain.proofs.AddedCellsLemmas.{line_unended, within_line}
-use Rattle.markdown_plain.proofs.BlankStandingLemmas.{last_of, next_after}
-use Rattle.markdown_plain.proofs.ClosableLemmas.{leaf_end_here}
-use Rattle.markdown_plain.proofs.HeldTextLemmas.{starts_after}
-use Rattle.markdown_plain.proofs.LeafLinesLemmas.{leaf_grows, leaf_leaves_off, loose_grown, open_leaf_touched}
-use Rattle.markdown_plain.proofs.LinedLeavesLemmas.{grown_to}
-use Rattle.markdown_plain.proofs.OpenTablesLemmas.{table_open, table_shown}
-use Rattle.markdown_plain.proofs.ShownRowsLemmas.{row_shown}
-use Rattle.markdown_plain.proofs.ReadRowsLemmas.{content_reached, is_row_line, row_cells_same, row_in_text}
-use Rattle.std.specs.Option.{option_map_or}
-use Rattle.std.specs.Str.{IsCharBoundary}
 use Rattle.markdown_base.specs.declared.item.ItemBody.{ItemBody}
 use Rattle.markdown_builder.specs.BuilderView.{BuilderView, innermost_block, parts_of}
 use Rattle.markdown_builder.specs.Shown.{Parts, Shown, alignments_shown, shown_item}
 use Rattle.markdown_lines.specs.declared.held_line.HeldLine.{HeldLine}
 use Rattle.markdown_plain.specs.OpenedFrames.{around_innermost}
 use Rattle.markdown_plain.specs.Settled.{AreOpen, IsLooseAs, BlanksKnown}
-use Rattle.markdown_plain.proofs.AppendedBlocksLemmas.{open_after}
-use Rattle.markdown_plain.proofs.ItemsInListsLemmas.{line_keeps}
-use Rattle.markdown_plain.proofs.LastBlocksLemmas.{open_are_containers}
-use Rattle.markdown_plain.proofs.LeafTreesLemmas.{trees_last}
-use Rattle.markdown_plain.proofs.LeavesInPlaceLemmas.{leaf_end, shown_alone}
-use Rattle.markdown_plain.proofs.LooseFramesLemmas.{ends_more}
-use Rattle.markdown_plain.proofs.OpenBlocksLemmas.{innermost_of_opened}
-use Rattle.markdown_plain.proofs.ReadyPlacesLemmas.{next_between, ready_last}
-use Rattle.markdown_plain.proofs.TouchedFramesLemmas.{earlier_touched, quotes_touched}
 use Rattle.markdown_plain.specs.ReachedFrames.{IsReached}
-use Rattle.markdown_plain.proofs.AddedTextLemmas.{loose_as_leaf}
+use Rattle.markdown_lines.specs.declared.block_start.Before.TheVariants as paragraph
+use Rattle.markdown_lines.specs.declared.block_start.BlockStart.TheVariants as start
+use Rattle.markdown_plain.specs.declared.containers.Reached as code
+use Rattle.markdown_base.specs.declared.item.ItemBody.TheVariants as body
+use Rattle.markdown_block_rules.specs.BlockGrowth as was
+use Rattle.markdown_plain.specs.OpenBlocks as by_body
+use Rattle.markdown_plain.proofs.FoundBlocksLemmas.{begins_block, is_held_line, starts_before, starts_after}
+use Rattle.markdown_plain.proofs.ReadyLinesLemmas.{next_between, stop_between, ready_last}
+use Rattle.markdown_plain.proofs.TextReachedLemmas.{content_within, reached_within, whole_within, leaf_grows}
+use Rattle.markdown_plain.proofs.TextReachedLemmas.{leaf_leaves_off, loose_grown, open_leaf_touched, loose_as_leaf}
+use Rattle.markdown_plain.proofs.AddedCellsLemmas.{AreFrames, added_inside, added_touched, begun_leaves, begun_same}
+use Rattle.markdown_plain.proofs.AddedCellsLemmas.{BlocksBegin, blocks_begin, ended_followed, ended_inside, frames_of}
+use Rattle.markdown_plain.proofs.AddedCellsLemmas.{line_unended, within_line}
+use Rattle.markdown_plain.proofs.BlankStandingLemmas.{before_last, next_after}
+use Rattle.markdown_plain.proofs.ClosableLemmas.{leaf_end_here}
+use Rattle.markdown_plain.proofs.LinedLeavesLemmas.{grown_to, leaf_end, shown_alone}
+use Rattle.markdown_plain.proofs.OpenTablesLemmas.{table_open, table_shown}
+use Rattle.markdown_plain.proofs.ShownRowsLemmas.{row_shown}
+use Rattle.markdown_plain.proofs.ClosedFramesLemmas.{open_after}
+use Rattle.markdown_plain.proofs.OpenedFramesLemmas.{line_keeps, earlier_touched, quotes_touched}
+use Rattle.markdown_plain.proofs.ReachedFramesLemmas.{open_are_containers}
+use Rattle.markdown_plain.proofs.LeafTreesLemmas.{trees_last, innermost_of_opened}
+use Rattle.markdown_plain.proofs.OpenListsLemmas.{ends_more}
 use Rattle.markdown_plain.proofs.FramesLemmas.{ends_in_block}
+
+-- ---- what is left of the line
+
+-- its first byte of content
+pub content_reached : (s : Source) (pass : Pass) (line : Line) (found : code.Reached) (before : Before)
+    (source : SourceLine) → IsReachedBy s pass line found before source
+    → is_blank_rest (reached_of s before source).rest ≡ false
+    → IsContentAt pass.placing.builder.text line (reached_of s before source).rest found.content
+content_reached s pass line found before source by filled =
+    let text = pass.placing.builder.text in
+    let rest = (reached_of s before source).rest in
+    let left = by.reaches.rest.left in
+    let here : found.content ≡ content_of rest = by.reaches.content in
+    let within = reached_within text line.start by.is.utf8 s before.frames (blocks_in before) source
+    (whole_within pass line source by.is) in
+    record {
+      filled = filled;
+      here = here;
+      boundary = subst (IsCharBoundary text) (sym here)
+          (content_within text line.start by.is.utf8 rest.left.scanned rest.left.owed rest.left.column rest.left.bytes
+          (record { own = within.own; boundary = within.boundary; low = within.low }));
+      low = within.low;
+      bytes = ap (λ n. slice_range text n line.stop) (sym (ap (λ l. l.scanned) left)) ∙ ap (λ l. l.bytes) left;
+      stop = by.reaches.stop;
+      next = by.reaches.rest.next;
+    }
+
+pub row_in_text : (s : Source) (pass : Pass) (line : Line) (found : code.Reached) (before : Before)
+    (source : SourceLine) → IsReachedBy s pass line found before source
+    → is_blank_rest (reached_of s before source).rest ≡ false
+    → IsInText pass.placing.builder.text (held_line line found.content)
+row_in_text s pass line found before source by filled =
+    let at = content_reached s pass line found before source by filled in
+    let first = starts_before pass.placing.builder.text line (reached_of s before source).rest found.content at in
+    record {
+      content = omega (arith, first);
+      ending = omega (arith, by.is.from.ends);
+      start = at.boundary;
+      stop = stop_between pass.placing.builder.text line.start line.stop by.is.from.content;
+      next = next_between pass.placing.builder.text line.start line by.is.utf8 by.is.from;
+    }
+
+-- bytes of which the first is no white space
+begins_filled : (bytes : List ℕ) → 0 < length bytes → is_space_or_tab (get_or bytes 0 0) ≡ false
+    → (prefix_len is_space_or_tab bytes ≡ 0) × (list_all is_space_or_tab bytes ≡ false)
+begins_filled [] some first = absurd (omega (arith, some))
+begins_filled (b ∷ bytes) some first = rw first (refl, refl)
+
+abbrev line_of : ℕ → ℕ → ℕ → List ℕ → ℕ → Bool → Option ℕ → SourceLine
+line_of scanned owed column bytes next outermost indent = record {
+  left = record { scanned = scanned; owed = owed; column = column; bytes = bytes };
+  next = next;
+  outermost = outermost;
+  indent = indent;
+}
+
+alike_line : (one other : SourceLine) → one.left.scanned ≡ other.left.scanned → one.left.owed ≡ other.left.owed
+    → one.left.column ≡ other.left.column → one.left.bytes ≡ other.left.bytes → one.next ≡ other.next
+    → one.outermost ≡ other.outermost → one.indent ≡ other.indent → one ≡ other
+alike_line one other scanned owed column bytes next outermost indent =
+    let l = one.left in
+    let m = other.left in
+    ap (λ n. line_of n l.owed l.column l.bytes one.next one.outermost one.indent) scanned
+    ∙ (ap (λ n. line_of m.scanned n l.column l.bytes one.next one.outermost one.indent) owed
+    ∙ (ap (λ n. line_of m.scanned m.owed n l.bytes one.next one.outermost one.indent) column
+    ∙ (ap (λ bs. line_of m.scanned m.owed m.column bs one.next one.outermost one.indent) bytes
+    ∙ (ap (λ n. line_of m.scanned m.owed m.column m.bytes n one.outermost one.indent) next
+    ∙ (ap (λ t. line_of m.scanned m.owed m.column m.bytes other.next t one.indent) outermost
+    ∙ ap (λ o. line_of m.scanned m.owed m.column m.bytes other.next other.outermost o) indent)))))
+
+-- a reader that reads the line inside a container, from its first byte of content on
+pub record ReadsRow (s : Source) (line : Line) (found : code.Reached) (reader : LineReader) (position : Position)
+    : Type 0 where
+  pub text : reader.text.now ≡ s.text
+  pub syntax : reader.syntax ≡ s.syntax
+  pub stop : reader.stop ≡ line.stop
+  pub next : reader.next ≡ line.next
+  pub inside : reader.outermost ≡ false
+  pub at : position.at ≡ found.content
+  pub owed : position.owed ≡ 0
+  pub column : position.column ≡ 0
+
+begin_text : (reader : LineReader) (found : BlockStart) (b : Beginning) → beginning_found reader found ≡ Some b
+    → is_text_start found ≡ is_text_beginning b
+begin_text reader start.Nothing b is = absurd (none-some b is)
+begin_text reader start.Text b is = ap is_text_beginning (same_Some _ b is)
+begin_text reader (start.IndentedCode rest) b is = ap is_text_beginning (same_Some _ b is)
+begin_text reader (start.Quote rest) b is = ap is_text_beginning (same_Some _ b is)
+begin_text reader (start.Alert kind) b is = ap is_text_beginning (same_Some _ b is)
+begin_text reader (start.Heading heading) b is = ap is_text_beginning (same_Some _ b is)
+begin_text reader (start.Fence opening) b is = ap is_text_beginning (same_Some _ b is)
+begin_text reader (start.Html kind) b is = ap is_text_beginning (same_Some _ b is)
+begin_text reader (start.Footnote label rest) b is = ap is_text_beginning (same_Some _ b is)
+begin_text reader (start.Underline level) b is = ap is_text_beginning (same_Some _ b is)
+begin_text reader start.ThematicBreak b is = ap is_text_beginning (same_Some _ b is)
+begin_text reader (start.Item item) b is = ap is_text_beginning (same_Some _ b is)
+begin_text reader (start.Metadata kind) b is = ap is_text_beginning (same_Some _ b is)
+
+module _ (s : Source) (pass : Pass) (line : Line) (found : code.Reached) (before : Before) (source : SourceLine)
+    (by : IsReachedBy s pass line found before source)
+    (filled : is_blank_rest (reached_of s before source).rest ≡ false) where
+  abbrev reached_row : SourceLine
+  reached_row = text_line (reached_of s before source).rest
+
+  pub is_row_line : IsTextLine pass.placing.builder.text (held_line line found.content) reached_row
+  is_row_line =
+      (begins_block pass.placing.builder.text line (reached_of s before source).rest found.content
+      (content_reached s pass line found before source by filled) by.is.from).is
+
+  same_text : pass.placing.builder.text ≡ s.text
+  same_text = ap (λ (r : Source). r.text) by.stands.source
+
+  -- its cells
+  pub row_cells_same : row_cells_at pass.placing.builder.text found.content line.stop ≡ cells_of reached_row
+  row_cells_same =
+      ap (λ bytes. row_cells found.content bytes) is_row_line.bytes
+      ∙ ap (λ n. row_cells n reached_row.left.bytes) is_row_line.start
+
+  -- what begins with it
+  module _ (reader : LineReader) (position : Position) (reads : ReadsRow s line found reader position) where
+    line_read : line_at reader position ≡ reached_row
+    line_read =
+        alike_line (line_at reader position) reached_row (reads.at ∙ is_row_line.start) reads.owed reads.column
+        (ap (λ t. slice_range t position.at reader.stop) (reads.text ∙ sym same_text)
+        ∙ (ap (λ n. slice_range pass.placing.builder.text n reader.stop) reads.at
+        ∙ (ap (slice_range pass.placing.builder.text found.content) reads.stop ∙ is_row_line.bytes)))
+        (reads.next ∙ by.reaches.rest.next) (ap (λ t. t && (position.at == reader.start)) reads.inside)
+        (sym (by.reaches.indent ∙ by.is.indent))
+
+    first_byte : (prefix_len is_space_or_tab reached_row.left.bytes ≡ 0) ×
+        (list_all is_space_or_tab reached_row.left.bytes ≡ false)
+    first_byte =
+        let text = pass.placing.builder.text in
+        let at = content_reached s pass line found before source by filled in
+        let held = is_held_line text line (reached_of s before source).rest found.content at by.is.from in
+        let bytes = is_row_line.bytes in
+        let some = starts_before text line (reached_of s before source).rest found.content at in
+        let size : 0 < length reached_row.left.bytes = filled_size text found.content line.stop reached_row.left.bytes
+        bytes some
+        (row_in_text s pass line found before source by filled).stop.0 in
+        let there = in_part text reached_row.left.bytes found.content line.stop 0 (sym bytes) size in
+        begins_filled reached_row.left.bytes size
+        (ap is_space_or_tab (there.byte ∙ ap (λ n. get_or text n 0) (omega arith)) ∙ held.first)
+      where
+        filled_size : (text : List ℕ) (at stop : ℕ) (bytes : List ℕ) → slice_range text at stop ≡ bytes → at < stop
+            → stop ≤ length text → 0 < length bytes
+        filled_size text at stop bytes is some high =
+            omega (arith, ap length is, part_length text at stop high, some)
+
+    -- it begins where it is read from, and is text as the reader finds
+    pub row_begun : (start_found : BlockStart)
+        → beginning_found reader start_found
+        ≡ begins_unless_blank (source_read reader) paragraph.Lazy (line_at reader position)
+        → is_text_start start_found ≡ is_text_beginning (begins s paragraph.Lazy reached_row)
+    row_begun start_found is =
+        begin_text reader start_found (begins s paragraph.Lazy reached_row)
+        (is ∙ (ap (begins_unless_blank (source_read reader) paragraph.Lazy) line_read
+        ∙ (ap (λ blank. if blank then None else Some (begins (source_read reader) paragraph.Lazy reached_row))
+        first_byte.1
+        ∙ ap (λ r. Some (begins r paragraph.Lazy reached_row)) (source_same reads.text reads.syntax))))
+      where
+        source_same : reader.text.now ≡ s.text → reader.syntax ≡ s.syntax → source_read reader ≡ s
+        source_same text syntax =
+            ap (λ t. record { text = t; syntax = reader.syntax }) text
+            ∙ ap (λ o. record { text = s.text; syntax = o }) syntax
+
+    pub row_starts : (at : ℕ) → at ≡ position.at + prefix_len is_space_or_tab (left_at reader position).bytes
+        → at ≡ found.content
+    row_starts at is =
+        let white = ap (λ (l : SourceLine). prefix_len is_space_or_tab l.left.bytes) line_read in
+        omega (arith, is, white, first_byte.0, reads.at)
 
 -- ---- the open table as it is shown
 
@@ -192,16 +373,16 @@ row_open s old new frames inside in_leaf b next ended head alignments rows row k
 pub row_places : (s : Source) (old new : Pass) (line : Line) (found : code.Reached) (frames : List Frame)
     (inside : Forest Block) (b : Block) (source : SourceLine) (head : SourceLine) (alignments : List Alignment)
     (rows : List SourceLine) → b.kind ≡ was.table_leaf false head alignments rows
-    → IsReachedBy s old line found (last_of frames inside b) source
-    → (reached_of s (last_of frames inside b) source).inner ≡ []
+    → IsReachedBy s old line found (before_last frames inside b) source
+    → (reached_of s (before_last frames inside b) source).inner ≡ []
     → MayEnd s old frames inside b None → KnowsLast old b None
-    → leaf_with s (reached_of s (last_of frames inside b) source).rest b.kind
+    → leaf_with s (reached_of s (before_last frames inside b) source).rest b.kind
     ≡ Some (was.table_leaf false head alignments
-    (rows ++ text_line (reached_of s (last_of frames inside b) source).rest ∷ []))
+    (rows ++ text_line (reached_of s (before_last frames inside b) source).rest ∷ []))
     → new ≡ record old { placing = new.placing; tables = new.tables }
     → PutsTrees old.placing.builder new.placing.builder line.next (shown_row s (length alignments) body.TableRow
-    (text_line (reached_of s (last_of frames inside b) source).rest))
-    → PlacesFor s new line.next (with_line s (blocks_before (last_of frames inside b)) source)
+    (text_line (reached_of s (before_last frames inside b) source).rest))
+    → PlacesFor s new line.next (with_line s (blocks_before (before_last frames inside b)) source)
 row_places s old new line found frames inside b source head alignments rows kind by none may knows goes same puts =
     record {
       frames = map (touched source) frames;
@@ -214,7 +395,7 @@ row_places s old new line found frames inside b source head alignments rows kind
         unended = unended;
         quotes = quotes_touched source line.next (sym by.is.next) frames;
         items = subst (AreItemsInLists false) whole
-            (line_keeps s (blocks_before (last_of frames inside b)) source may.items);
+            (line_keeps s (blocks_before (before_last frames inside b)) source may.items);
         loose = loose;
         filled = ends_more false inside (leaf_block c);
         before = before;
@@ -233,15 +414,15 @@ row_places s old new line found frames inside b source head alignments rows kind
   where
     now : Kind
     now = was.table_leaf false head alignments
-        (rows ++ text_line (reached_of s (last_of frames inside b) source).rest ∷ [])
+        (rows ++ text_line (reached_of s (before_last frames inside b) source).rest ∷ [])
 
     c : Block
     c = grown_to b line.next now
 
-    next : (reached_of s (last_of frames inside b) source).rest.next ≡ line.next
+    next : (reached_of s (before_last frames inside b) source).rest.next ≡ line.next
     next = sym by.reaches.rest.next
 
-    whole : with_line s (blocks_before (last_of frames inside b)) source
+    whole : with_line s (blocks_before (before_last frames inside b)) source
         ≡ rebuilt (map (touched source) frames) (followed_by inside (leaf_block c))
     whole =
         let around = may.unended.1.around in
@@ -263,7 +444,7 @@ row_places s old new line found frames inside b source head alignments rows kind
         refl,
         open_leaf_touched source s new.placing.builder frames inside false c
             (row_open s old.placing.builder new.placing.builder frames inside (not (is_table b.kind)) b line.next
-            false head alignments rows (text_line (reached_of s (last_of frames inside b) source).rest) kind puts
+            false head alignments rows (text_line (reached_of s (before_last frames inside b) source).rest) kind puts
             may.unended.1),
       ),
       (tt, blanks, lines),
@@ -437,15 +618,15 @@ module _ (b : Block) (head : SourceLine) (alignments : List Alignment) (rows : L
 
   -- a line reaches the same containers
   pub ended_reached : (s : Source) (frames : List Frame) (inside : Forest Block) (source : SourceLine)
-      → reached_of s (last_of frames inside b) source ≡ reached_of s (last_of frames inside ended_now) source
+      → reached_of s (before_last frames inside b) source ≡ reached_of s (before_last frames inside ended_now) source
   ended_reached s frames inside source =
       reached_alike s frames (followed_by inside (leaf_block b)) (followed_by inside (leaf_block ended_now)) source
       (ends_in_block inside b nil ∙ sym (ends_in_block inside ended_now nil))
 
   pub ended_by : (s : Source) (pass : Pass) (line : Line) (found : code.Reached) (frames : List Frame)
       (inside : Forest Block) (source : SourceLine) → AreContainers frames → MayEnd s pass frames inside b None
-      → KnowsLast pass b None → IsReachedBy s pass line found (last_of frames inside b) source
-      → IsReachedBy s pass line found (last_of frames inside ended_now) source
+      → KnowsLast pass b None → IsReachedBy s pass line found (before_last frames inside b) source
+      → IsReachedBy s pass line found (before_last frames inside ended_now) source
   ended_by s pass line found frames inside source are may knows by = record {
     stands = ended_stands s pass frames inside line.start by.stands may knows are;
     is = by.is;
@@ -461,13 +642,13 @@ table_case : (P : Before → Type 0) (s : Source) (pass : Pass) (before : Before
     → innermost_is by_body.is_table pass.placing.builder.blocks ≡ true
     → ((b : Block) (ended : Bool) (head : SourceLine) (alignments : List Alignment) (rows : List SourceLine)
     → b.kind ≡ was.table_leaf ended head alignments rows → MayEnd s pass before.frames before.inside b None
-    → KnowsLast pass b None → P (last_of before.frames before.inside b)) → P before
+    → KnowsLast pass b None → P (before_last before.frames before.inside b)) → P before
 table_case P s pass before has table some = by_last before.last has some
   where
     by_last : (last : Option Block) → HasLast s pass before.frames before.inside last
         → ((b : Block) (ended : Bool) (head : SourceLine) (alignments : List Alignment) (rows : List SourceLine)
         → b.kind ≡ was.table_leaf ended head alignments rows → MayEnd s pass before.frames before.inside b None
-        → KnowsLast pass b None → P (last_of before.frames before.inside b))
+        → KnowsLast pass b None → P (before_last before.frames before.inside b))
         → P (record { frames = before.frames; inside = before.inside; last = last })
     by_last None has some =
         absurd (true≢false (sym table ∙ table_open s pass before.frames before.inside None has))
@@ -478,13 +659,13 @@ table_case P s pass before has table some = by_last before.last has some
 
         by_kind : (kind : Kind) → b.kind ≡ kind → is_table kind ≡ true
             → MayEnd s pass before.frames before.inside b None → KnowsLast pass b None
-            → P (last_of before.frames before.inside b)
+            → P (before_last before.frames before.inside b)
         by_kind (was.table_leaf ended head alignments rows) kind table may knows =
             some b ended head alignments rows kind may knows
         by_kind other kind table may knows = absurd (true≢false (sym table))
 
         by_held : (held : Option (List SourceLine)) → MayEnd s pass before.frames before.inside b held
-            → KnowsLast pass b held → P (last_of before.frames before.inside b)
+            → KnowsLast pass b held → P (before_last before.frames before.inside b)
         by_held None may knows = by_kind b.kind refl is may knows
         by_held (Some sources) may knows =
             absurd (true≢false (sym is ∙ ap is_table may.unended.kind))
@@ -526,16 +707,16 @@ record TableHere (s : Source) (pass : Pass) (line : Line) (found : code.Reached)
   kind : b.kind ≡ was.table_leaf false head alignments rows
   may : MayEnd s pass frames inside b None
   knows : KnowsLast pass b None
-  reaches : ReachesTable s pass line found (last_of frames inside b) source
+  reaches : ReachesTable s pass line found (before_last frames inside b) source
   reads : reads_tables s ≡ true
 
 module _ {s : Source} {old : Pass} {line : Line} {found : code.Reached} {frames : List Frame} {inside : Forest Block}
     {b : Block} {source : SourceLine} (here : TableHere s old line found frames inside b source) where
   abbrev rest : SourceLine
-  rest = (reached_of s (last_of frames inside b) source).rest
+  rest = (reached_of s (before_last frames inside b) source).rest
 
   abbrev row : SourceLine
-  row = text_line (reached_of s (last_of frames inside b) source).rest
+  row = text_line (reached_of s (before_last frames inside b) source).rest
 
   abbrev blocks : Forest Block
   blocks = rebuilt frames (followed_by inside (leaf_block b))
@@ -553,7 +734,7 @@ module _ {s : Source} {old : Pass} {line : Line} {found : code.Reached} {frames 
       here.rows here.kind here.may.unended.1 in
       ap (λ cells. nat_lt 0 (length cells) && nat_le (old.tables.added
       + (open_columns old.placing.builder - length cells)) old.tables.most)
-      (row_cells_same s old line found (last_of frames inside b) source here.reaches.by here.reaches.filled)
+      (row_cells_same s old line found (before_last frames inside b) source here.reaches.by here.reaches.filled)
       ∙ (ap (λ n. nat_lt 0 (length (cells_of row)) && nat_le (old.tables.added
       + (n - length (cells_of row))) old.tables.most) columns
       ∙ (ap (λ n. nat_lt 0 (length (cells_of row)) && nat_le (n + cells_added (length here.alignments) row)
@@ -594,11 +775,11 @@ module _ {s : Source} {old : Pass} {line : Line} {found : code.Reached} {frames 
       (ap (λ (fs : List Frame). goes_on s (rebuilt fs (followed_by inside (leaf_block b))) rest) here.reaches.none
       ∙ leaf_leaves_off s rest inside b here.may.unended.0 leaves)
 
-  off_as_it_is : leaf_with s rest b.kind ≡ None → GoesOffAs s old line found (last_of frames inside b) source
+  off_as_it_is : leaf_with s rest b.kind ≡ None → GoesOffAs s old line found (before_last frames inside b) source
   off_as_it_is leaves =
       let same = begun_same s source blocks (with_line s blocks source) (nothing_goes leaves) in
       record {
-        before = last_of frames inside b;
+        before = before_last frames inside b;
         by = here.reaches.by;
         off = λ all leaf code. leaves;
         same = within_line s blocks source (omega (arith, same, here.reaches.counted.few));
@@ -611,7 +792,7 @@ module _ {s : Source} {old : Pass} {line : Line} {found : code.Reached} {frames 
   over = ended_now b here.head here.alignments here.rows here.kind
 
   off_ended : nat_le (added_in (with_line s blocks source)) (most_added s.text) ≡ false
-      → GoesOffAs s old line found (last_of frames inside b) source
+      → GoesOffAs s old line found (before_last frames inside b) source
   off_ended many =
       let ended = rebuilt frames (followed_by inside (leaf_block over)) in
       let was_ended : with_ended_table blocks ≡ ended =
@@ -623,11 +804,11 @@ module _ {s : Source} {old : Pass} {line : Line} {found : code.Reached} {frames 
       let reaches = ended_reached b here.head here.alignments here.rows here.kind s frames inside source in
       let begin = blocks_begin s frames (followed_by inside (leaf_block over)) source opened.containers opened.nested
       (ap (λ (fs : List Frame). goes_on s (rebuilt fs (followed_by inside (leaf_block over)))
-      (reached_of s (last_of frames inside over) source).rest)
+      (reached_of s (before_last frames inside over) source).rest)
       (ap (λ r. r.inner) (sym reaches) ∙ here.reaches.none)
-      ∙ leaf_leaves_off s (reached_of s (last_of frames inside over) source).rest inside over refl refl) in
+      ∙ leaf_leaves_off s (reached_of s (before_last frames inside over) source).rest inside over refl refl) in
       record {
-        before = last_of frames inside over;
+        before = before_last frames inside over;
         by = now;
         off = λ all leaf code. refl;
         same = ap (λ t. if t then was.within_limit s source blocks (with_line s blocks source)
@@ -641,7 +822,7 @@ module _ {s : Source} {old : Pass} {line : Line} {found : code.Reached} {frames 
 
   -- the line is no row of the table: it is no text, or has no cell, or there is no room
   goes_off : (is_text_beginning (begins s paragraph.Lazy row) && may_be_row old found.content line.stop) ≡ false
-      → GoesOffAs s old line found (last_of frames inside b) source
+      → GoesOffAs s old line found (before_last frames inside b) source
   goes_off missed =
       by_text (is_text_beginning (begins s paragraph.Lazy row)) refl missed
     where
@@ -651,7 +832,7 @@ module _ {s : Source} {old : Pass} {line : Line} {found : code.Reached} {frames 
       by_cells : (text : is_text_beginning (begins s paragraph.Lazy row) ≡ true) (some : Bool)
           → nat_lt 0 (length (cells_of row)) ≡ some
           → (some && nat_le (added_in blocks + cells_added (length here.alignments) row) (most_added s.text)) ≡ false
-          → GoesOffAs s old line found (last_of frames inside b) source
+          → GoesOffAs s old line found (before_last frames inside b) source
       by_cells text true some missed =
           off_ended (ap (λ n. nat_le n (most_added s.text)) (line_adds text some) ∙ missed)
       by_cells text false some missed =
@@ -660,7 +841,7 @@ module _ {s : Source} {old : Pass} {line : Line} {found : code.Reached} {frames 
 
       by_text : (text : Bool) → is_text_beginning (begins s paragraph.Lazy row) ≡ text
           → (text && may_be_row old found.content line.stop) ≡ false
-          → GoesOffAs s old line found (last_of frames inside b) source
+          → GoesOffAs s old line found (before_last frames inside b) source
       by_text true text missed = by_cells text (nat_lt 0 (length (cells_of row))) refl (sym room ∙ missed)
       by_text false text missed =
           off_as_it_is (no_row (ap (λ t. t && not (length (cells_of row) == 0)) text))
@@ -693,7 +874,7 @@ module _ {s : Source} {old : Pass} {line : Line} {found : code.Reached} {frames 
           adds.counts,
           here.reaches.counted.added,
           columns,
-          ap length (row_cells_same s old line found (last_of frames inside b) source here.reaches.by
+          ap length (row_cells_same s old line found (before_last frames inside b) source here.reaches.by
               here.reaches.filled),
           added,
         );
@@ -709,7 +890,7 @@ module _ {s : Source} {old : Pass} {line : Line} {found : code.Reached} {frames 
           here.reaches.by here.reaches.none here.may here.knows
           (goes text tests.0) adds.same (subst (PutsTrees old.placing.builder new.placing.builder line.next)
           (row_shown (source_of old) (open_columns old.placing.builder) body.TableRow (held_line line found.content) row
-          (is_row_line s old line found (last_of frames inside b) source here.reaches.by here.reaches.filled)
+          (is_row_line s old line found (before_last frames inside b) source here.reaches.by here.reaches.filled)
           ∙ (ap (λ r. shown_row r (open_columns old.placing.builder) body.TableRow row) here.reaches.by.stands.source
           ∙ ap (λ n. shown_row s n body.TableRow row) columns)) adds.puts))
 
@@ -719,7 +900,7 @@ module _ {s : Source} {old : Pass} {line : Line} {found : code.Reached} {frames 
 table_here : (s : Source) (pass : Pass) (line : Line) (found : code.Reached) (before : Before) (source : SourceLine)
     → innermost_is by_body.is_table pass.placing.builder.blocks ≡ true → (P : Before → Type 0)
     → ((b : Block) → TableHere s pass line found before.frames before.inside b source
-    → P (last_of before.frames before.inside b)) → ReachesTable s pass line found before source → P before
+    → P (before_last before.frames before.inside b)) → ReachesTable s pass line found before source → P before
 table_here s pass line found before source table P so reaches =
     table_case (λ now. ReachesTable s pass line found now source → P now) s pass before reaches.by.stands.unended table
     (λ b ended head alignments rows kind may knows reaches.
@@ -771,7 +952,7 @@ read_fits s old line found before source table by =
     → is_blank_rest (reached_of s before source).rest ≡ false
     → MayAddRow old.placing.builder (held_line line found.content)) s old before by.stands.unended table
     (λ b ended head alignments rows kind may knows by filled.
-    let now = last_of before.frames before.inside b in
+    let now = before_last before.frames before.inside b in
     let at = content_reached s old line found now source by filled in
     let after = starts_after old.placing.builder.text line (reached_of s now source).rest found.content at in
     let here = leaf_end_here old knows.2 in

@@ -1,8 +1,7 @@
--- What the pass stands for after a blank line: the containers that the line does not reach are closed, and the line
--- follows in the innermost one that it reaches; or it goes on with indented code.
+-- What the pass stands for after a line that was placed, and after a blank line: the containers that this does not
+-- reach are closed.
 use Rattle.std.proofs.Common.{◌≡◌, ℕ, ◌≤◌, Bool, true, false, not, ◌&&◌, List, [], ◌∷◌, ◌++◌, Option, Some, None, drop}
-use Rattle.std.proofs.Common.{take, length, map, refl, sym, ap, ◌∙◌, subst, true≢false, arith, append_assoc}
-use Rattle.std.proofs.Common.{append-nil}
+use Rattle.std.proofs.Common.{take, length, map, refl, sym, ap, ◌∙◌, subst, true≢false, arith, append_assoc, append-nil}
 use Rattle.std.specs.Prelude.{if◌then◌else◌}
 use Rattle.std.specs.Option.{option_map}
 use Rattle.std.proofs.Math.Bool.{and-false}
@@ -15,20 +14,17 @@ use Rattle.markdown_lines.specs.SourceLines.{SourceLine, cut, is_blank_rest}
 use Rattle.markdown_lines.specs.declared.held_line.HeldLine.{HeldLine}
 use Rattle.markdown_lines.specs.declared.line.Line.{Line}
 use Rattle.markdown_lines.specs.declared.list_marker.ListMarker.{ListMarker}
-use Rattle.markdown_block_rules.specs.BlockGrowth as was
 use Rattle.markdown_block_rules.specs.BlockGrowth.{Block, begun_by, goes_on, lazily, leaf_with, line_block, next_item}
 use Rattle.markdown_block_rules.specs.BlockGrowth.{Kind, with_line}
 use Rattle.markdown_block_rules.specs.BlockRules.{code_lines, is_blank_block, last_is_blank}
-use Rattle.markdown_plain.specs.declared.pass.LeafKind.TheVariants as leaf
 use Rattle.markdown_plain.specs.declared.pass.Pass.{Pass}
 use Rattle.markdown_plain.specs.Closing.{AreItemsInLists, MayClose, MayEnd}
 use Rattle.markdown_plain.specs.PassSteps.{ClosesDown}
-use Rattle.markdown_plain.proofs.RoomLemmas.{holds_last}
 use Rattle.markdown_plain.specs.Frames.{AreContainers, AreNested, Frame, innermost_is, is_list, reached, rebuilt}
 use Rattle.markdown_plain.specs.Frames.{touched}
 use Rattle.markdown_plain.specs.HeldSources.{AreHeld}
 use Rattle.markdown_plain.specs.ListLooseness.{blank_from}
-use Rattle.markdown_plain.specs.OpenLeaves.{is_leaf, is_table, leaf_block}
+use Rattle.markdown_plain.specs.OpenLeaves.{is_leaf, is_table, leaf_block, IsUnended}
 use Rattle.markdown_plain.specs.Paragraphs.{lines_end, source_of}
 use Rattle.markdown_plain.specs.ReachedFrames.{are_none, quote_depth}
 use Rattle.markdown_plain.specs.Closable.{AreClosable}
@@ -38,26 +34,28 @@ use Rattle.markdown_plain.specs.declared.pass.LeafKind.{LeafKind}
 use Rattle.markdown_plain.specs.Settled.{AreOpen, BlanksKnown, IsLooseAs, QuotesEnd}
 use Rattle.markdown_plain.specs.ReachedLines.{Before, IsReachedBy, LeavesOff, blocks_before, blocks_in, is_indented}
 use Rattle.markdown_plain.specs.ReachedLines.{reached_of}
-use Rattle.markdown_plain.specs.declared.containers.Reached as code
 use Rattle.markdown_plain.specs.Standing.{AreOpenedBefore, GoesOnBy, HasLast, HoldsBlanks, IsLeafKind, IsSource}
-use Rattle.markdown_plain.specs.Standing.{KnowsLast}
-use Rattle.markdown_plain.specs.Standing.{StandsFor, with_last}
-use Rattle.markdown_plain.proofs.AppendedBlocksLemmas.{blank_is_at_end, blank_is_built}
-use Rattle.markdown_plain.proofs.BlankLinesLemmas.{blank_alike, blank_quotes, empty_blank, item_reached}
-use Rattle.markdown_plain.proofs.BlanksKnownLemmas.{blank_at_end, blank_known, known_touched, same_touched}
-use Rattle.markdown_plain.proofs.ClosingDownLemmas.{known_of_outermost}
+use Rattle.markdown_plain.specs.Standing.{KnowsLast, StandsFor, with_last, Places, PlacesFor, PlacesLast}
+use Rattle.markdown_block_rules.specs.BlockGrowth as was
+use Rattle.markdown_plain.specs.declared.pass.LeafKind.TheVariants as leaf
+use Rattle.markdown_plain.specs.declared.containers.Reached as code
+use Rattle.markdown_plain.proofs.ClosingDownLemmas.{holds_last, known_of_outermost}
+use Rattle.markdown_plain.proofs.ClosedFramesLemmas.{blank_is_at_end, blank_is_built}
+use Rattle.markdown_plain.proofs.ReachedFramesLemmas.{blank_alike, blank_quotes, empty_blank, item_reached}
+use Rattle.markdown_plain.proofs.ReachedFramesLemmas.{leaf_is_over, open_are_containers}
+use Rattle.markdown_plain.proofs.OpenListsLemmas.{blank_at_end, blank_known, known_touched, same_touched, ends_more}
+use Rattle.markdown_plain.proofs.OpenListsLemmas.{content_known}
 use Rattle.markdown_plain.proofs.FramesLemmas.{HasMarker, Innermost, goes_on_last, innermost_apart, marker_of_list}
-use Rattle.markdown_plain.proofs.ItemsInListsLemmas.{line_keeps}
-use Rattle.markdown_plain.proofs.LastBlocksLemmas.{leaf_is_over, open_are_containers}
+use Rattle.markdown_plain.proofs.FramesLemmas.{block_begins, inner_goes_lazily, inner_left, item_begins, outer_taken}
+use Rattle.markdown_plain.proofs.FramesLemmas.{reached_parts}
+use Rattle.markdown_plain.proofs.OpenedFramesLemmas.{line_keeps, built_touched, earlier_outer, earlier_touched}
+use Rattle.markdown_plain.proofs.OpenedFramesLemmas.{quotes_touched}
 use Rattle.markdown_plain.proofs.OpenTablesLemmas.{in_leaf_open, leaf_known}
-use Rattle.markdown_plain.proofs.LeafLinesLemmas.{end_touched, leaf_grows, leaf_leaves_off, lists_before_blank}
-use Rattle.markdown_plain.proofs.LeafLinesLemmas.{loose_grown, open_leaf_touched, open_parts}
+use Rattle.markdown_plain.proofs.TextReachedLemmas.{end_touched, leaf_grows, leaf_leaves_off, lists_before_blank}
+use Rattle.markdown_plain.proofs.TextReachedLemmas.{loose_grown, open_leaf_touched, open_parts}
 use Rattle.markdown_plain.proofs.LinedLeavesLemmas.{blank_held, code_before_blank, grown_to}
-use Rattle.markdown_plain.proofs.LooseFramesLemmas.{ends_more}
-use Rattle.markdown_plain.proofs.ReachedLemmas.{block_begins, inner_goes_lazily, inner_left, item_begins, outer_taken}
-use Rattle.markdown_plain.proofs.ReachedLemmas.{reached_parts}
-use Rattle.markdown_plain.proofs.ReadyLinesLemmas.{SeesBlank, blank_moves, closed_ready, held_ready}
-use Rattle.markdown_plain.proofs.TouchedFramesLemmas.{built_touched, earlier_outer, earlier_touched, quotes_touched}
+use Rattle.markdown_plain.proofs.ReadyLinesLemmas.{SeesBlank, blank_moves, closed_ready, held_ready, seen_ready}
+use Rattle.markdown_plain.proofs.HeldLinesLemmas.{seen_remembered}
 
 -- ---- what goes on in a blank line
 
@@ -305,23 +303,23 @@ record HoldsBlank (s : Source) (old mid : Pass) (b : Block) (lines : List Source
     blank : is_blank_rest rest ≡ true
     holds : HoldsBlanks mid.blanks.items (was.indented_leaf (lines ++ cut 4 rest ∷ []))
 
-abbrev pub last_of : List Frame → Forest Block → Block → Before
-last_of frames inside b = record { frames = frames; inside = inside; last = Some b }
+abbrev pub before_last : List Frame → Forest Block → Block → Before
+before_last frames inside b = record { frames = frames; inside = inside; last = Some b }
 
 -- it is one more line of the code
 code_stands_for : (s : Source) (old mid : Pass) (line : Line) (found : code.Reached) (frames : List Frame)
     (inside : Forest Block) (b : Block) (source : SourceLine) (lines : List SourceLine) (placed : ℕ)
-    → IsReachedBy s old line found (last_of frames inside b) source
-    → (reached_of s (last_of frames inside b) source).inner ≡ []
-    → HoldsBlank s old mid b lines (reached_of s (last_of frames inside b) source).rest
+    → IsReachedBy s old line found (before_last frames inside b) source
+    → (reached_of s (before_last frames inside b) source).inner ≡ []
+    → HoldsBlank s old mid b lines (reached_of s (before_last frames inside b) source).rest
     → (may : MayEnd s old frames inside b None) → old.placing.builder.leaf ≡ true → old.lines.items ≡ []
-    → QuotesEnd placed (map (touched source) (reached_of s (last_of frames inside b) source).outer)
+    → QuotesEnd placed (map (touched source) (reached_of s (before_last frames inside b) source).outer)
     → SeesBlank old line source placed → MayAddBefore old.placing.builder mid.blanks.items line.next
     → StandsFor s (blank_seen (record old { blanks = mid.blanks }) found.quoted placed) line.next
-    (with_line s (blocks_before (last_of frames inside b)) source)
+    (with_line s (blocks_before (before_last frames inside b)) source)
 code_stands_for s old mid line found frames inside b source lines placed by none held may open_leaf empty quotes sees
     fits =
-    let before = last_of frames inside b in
+    let before = before_last frames inside b in
     let now = followed_by inside (leaf_block b) in
     let r = reached_of s before source in
     let all = all_reached s frames now source none in
@@ -419,8 +417,9 @@ code_stands s old mid line found frames inside (Some b) source placed by blank n
           kind = kind;
           how = how;
           blank = blank;
-          holds = more_blank mid.blanks.items lines knows.0 (cut 4 (reached_of s (last_of frames inside b) source).rest)
-              (blank_alike 4 (reached_of s (last_of frames inside b) source).rest.left ∙ blank) knows.1
+          holds = more_blank mid.blanks.items lines knows.0
+              (cut 4 (reached_of s (before_last frames inside b) source).rest)
+              (blank_alike 4 (reached_of s (before_last frames inside b) source).rest.left ∙ blank) knows.1
               (holds knows.0 knows.2);
         }) may open_leaf empty quotes sees fits
     by_kind other kind may is knows empty = absurd is
@@ -502,3 +501,100 @@ blank_ends s old line found before source placed by ends = by_white (is_blank_re
     by_white true is = blank_quotes s before.frames (blocks_in before) source source placed is
     by_white false is =
         quotes_touched source placed (sym (ends is ∙ by.is.next)) (reached_of s before source).outer
+
+-- ---- after a line
+
+-- open blocks are these containers
+pub record Opened (texts : List (List ℕ)) (frames : List Frame) : Type 0 where
+  pub blocks : List OpenBlock
+  pub are : AreOpen texts blocks frames
+
+-- around a block that has not ended
+open_around : (s : Source) (pass : Pass) (frames : List Frame) (inside : Forest Block) (b : Block)
+    (held : Option (List SourceLine)) → IsUnended s pass frames inside b held
+    → Opened pass.placing.builder.texts frames
+open_around s pass frames inside b None is = record { blocks = is.1.outer; are = is.1.around.blocks }
+open_around s pass frames inside b (Some sources) is =
+    record { blocks = pass.placing.builder.blocks; are = is.built.blocks }
+
+open_when_placed : (s : Source) (pass : Pass) (frames : List Frame) (inside : Forest Block) (last : Option Block)
+    → PlacesLast s pass frames inside last → Opened pass.placing.builder.texts frames
+open_when_placed s pass frames inside None is =
+    record { blocks = pass.placing.builder.blocks; are = is.0.built.blocks }
+open_when_placed s pass frames inside (Some b) is = open_around s pass frames inside b is.0 is.1
+
+-- the pass after a line that is not blank, and ends at a byte offset
+abbrev pub content_seen : Pass → ℕ → Pass
+content_seen pass to = record pass { looseness = record pass.looseness { blank_from = None }; placed = to }
+
+seen_unended : (s : Source) (pass : Pass) (to : ℕ) (frames : List Frame) (inside : Forest Block) (b : Block)
+    (held : Option (List SourceLine)) → IsUnended s pass frames inside b held
+    → IsUnended s (content_seen pass to) frames inside b held
+seen_unended s pass to frames inside b None is = is
+seen_unended s pass to frames inside b (Some sources) is = record {
+  built = is.built;
+  some = is.some;
+  kind = is.kind;
+  lines = is.lines;
+  task = is.task;
+  from = is.from;
+  last = is.last;
+}
+
+seen_known : (pass : Pass) (to : ℕ) (b : Block) (held : Option (List SourceLine)) → KnowsLast pass b held
+    → KnowsLast (content_seen pass to) b held
+seen_known pass to b None knows = knows
+seen_known pass to b (Some sources) knows = knows
+
+seen_last : (s : Source) (pass : Pass) (to : ℕ) (frames : List Frame) (inside : Forest Block) (last : Option Block)
+    → Places s pass frames inside last to → HasLast s (content_seen pass to) frames inside last
+seen_last s pass to frames inside None places = (
+  record {
+    stands = record {
+      built = places.unended.0.built;
+      ends = record { at = places.unended.0.at; quotes = places.quotes };
+      items = places.items;
+    };
+    loose = record { lists = places.loose.lists; empty = places.loose.empty };
+  },
+  places.unended.1,
+  places.unended.2,
+)
+seen_last s pass to frames inside (Some b) places =
+    let held = places.unended.0 in (
+      held,
+      record {
+        unended = seen_unended s pass to frames inside b held places.unended.1;
+        syntax = ap (λ (source : Source). source.syntax) (sym places.source);
+        quotes = places.quotes;
+        items = places.items;
+        loose = record { lists = places.loose.lists; empty = places.loose.empty };
+      },
+      seen_known pass to b held places.unended.2,
+    )
+
+-- once a line that is not blank is placed, and this is recorded, the pass stands for the blocks that the line made
+pub placed_stands : (s : Source) (old new : Pass) (to : ℕ) (blocks : Forest Block) → new ≡ content_seen old to
+    → PlacesFor s old to blocks → StandsFor s new to blocks
+placed_stands s old new to blocks same places =
+    let p = places.places in
+    let open_now = open_when_placed s old places.frames places.inside places.last p.unended in
+    subst (λ (pass : Pass). StandsFor s pass to blocks) (sym same) (record {
+      frames = places.frames;
+      inside = places.inside;
+      last = places.last;
+      stands = record {
+        source = p.source;
+        unended = seen_last s old to places.frames places.inside places.last p;
+        loose = record { lists = p.loose.lists; empty = p.loose.empty };
+        blanks = content_known 0 old.placing.builder.texts open_now.blocks places.frames
+            (with_last places.inside places.last) open_now.are p.filled;
+        before = p.before;
+        unheld = p.unheld;
+        earlier = p.earlier;
+        alone = p.alone;
+        remembers = seen_remembered s old (content_seen old to) to places.last refl p.remembers;
+        ready = seen_ready old (content_seen old to) to p.ready;
+      };
+      whole = places.whole;
+    })

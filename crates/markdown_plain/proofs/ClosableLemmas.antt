@@ -1,4 +1,4 @@
--- Calls that end a paragraph and close blocks fit.
+-- Calls that end a paragraph and close blocks fit; and lines of which the first ones were taken as definitions.
 use Rattle.std.proofs.Common.{◌≡◌, ℕ, zero, suc, ◌+◌, ◌-◌, ◌<◌, ◌≤◌, Bool, true, false, List, [], ◌∷◌, ◌++◌, Option}
 use Rattle.std.proofs.Common.{Some, None, length, length-append, drop, take, slice_range, reverse, ⊎_elim, refl, sym}
 use Rattle.std.proofs.Common.{ap, ◌∙◌, subst, arith}
@@ -7,19 +7,18 @@ use Rattle.std.specs.Str.{IsCharBoundary, IsUtf8}
 use Rattle.std.specs.List.{prefix_len, suffix_len}
 use Rattle.std.proofs.lemmas.Bool.{and_parts, cases_lt, true≢false}
 use Rattle.std.proofs.lemmas.Bool.Decides.{nat_tests}
-use Rattle.std.proofs.lemmas.List.{get_or-drop, get_or-reverse}
+use Rattle.std.proofs.lemmas.List.{get_or-drop, get_or-reverse, drop-drop, length-drop, take_all}
 use Rattle.std.proofs.lemmas.List.Sums.{prefix_len_passes}
-use Rattle.std.proofs.lemmas.Option.{same_Some}
+use Rattle.std.proofs.lemmas.Option.{same_Some, slice_get-get_or, slice_get_within}
 use Rattle.std.proofs.lemmas.Str.{IsCharBoundary-after_ascii, IsCharBoundary-before_ascii}
 use Rattle.std.specs.Option.{option_map_or}
 use Rattle.std.proofs.Math.Bool.{and-false}
 use Rattle.markdown_base.specs.Bytes.{close_bracket, open_bracket}
-use Rattle.markdown_base.specs.declared.item.ItemBody.TheVariants as body
 use Rattle.markdown_base.specs.declared.item.ItemBody.{ItemBody}
 use Rattle.markdown_base.specs.declared.tag.HeadingLevel.{HeadingLevel}
 use Rattle.markdown_base.specs.Forest.{Forest}
 use Rattle.markdown_builder.specs.Bodies.{is_leaf}
-use Rattle.markdown_builder.specs.BuilderView.{BuilderView, Opens, innermost_block}
+use Rattle.markdown_builder.specs.BuilderView.{BuilderView, Opens, innermost_block, Definition}
 use Rattle.markdown_builder.specs.EvenRows.{is_in_row, is_table_row}
 use Rattle.markdown_builder.specs.declared.open_block.OpenBlock.{OpenBlock}
 use Rattle.markdown_builder.specs.Shown.{Shown}
@@ -36,17 +35,21 @@ use Rattle.markdown_plain.specs.Containers.{is_container}
 use Rattle.markdown_plain.specs.OpenBlocks.{innermost_is, is_list, is_quote, outer_of, room_in, without_leaf}
 use Rattle.markdown_plain.specs.OpenBlocks.{without_list}
 use Rattle.markdown_plain.specs.HeldSources.{AreInOrder, AreInParagraph}
-use Rattle.markdown_plain.specs.Paragraphs.{has_paragraph}
+use Rattle.markdown_plain.specs.Paragraphs.{has_paragraph, end_of, lines_end, past}
 use Rattle.markdown_plain.specs.declared.pass.Pass.{Pass}
 use Rattle.markdown_plain.specs.declared.paragraph.Ends.{Ends}
 use Rattle.markdown_plain.specs.Closable.{AreAhead, AreApart, AreClosable, AreContainers, AreInText, has_quote}
 use Rattle.markdown_plain.specs.Closable.{leaf_end, HasBraces, HasRoomFor, HasTask, HaveTask, IsInList, IsPlaceable}
 use Rattle.markdown_plain.specs.Closable.{IsInText, IsLastInText, IsLeafOpen, IsWhiteBefore}
-use Rattle.markdown_plain.specs.Fitting.{GoesOn, OpensHeading, closed, IsAhead, IsWhiteOutside}
-use Rattle.markdown_plain.proofs.DefinitionEndsLemmas.{IsSpanIn, MayCut}
-use Rattle.markdown_plain.proofs.LeafTreesLemmas.{on_test}
-use Rattle.markdown_plain.proofs.OpenBlocksLemmas.{innermost_of_opened, last_apart}
-use Rattle.markdown_plain.proofs.ParagraphLinesLemmas.{if_some, marker_within, range_byte, range_length}
+use Rattle.markdown_plain.specs.Fitting.{GoesOn, OpensHeading, closed, IsAhead, IsWhiteOutside, defining, stepped}
+use native.Mathlib.Numerals.{unary_clauses}
+use Rattle.markdown_plain.specs.ParagraphSteps.{EndsTo, TakesLines}
+use Rattle.markdown_base.specs.declared.item.ItemBody.TheVariants as body
+use Rattle.markdown_plain.proofs.DefinitionsLemmas.{IsSpanIn, MayCut}
+use Rattle.markdown_plain.proofs.LeafTreesLemmas.{on_test, innermost_of_opened, last_apart}
+use Rattle.markdown_plain.proofs.ParagraphTreesLemmas.{if_some, marker_within, range_byte, range_length}
+
+-- ---- calls that fit
 
 -- where a leaf is open, no call is outside blocks
 pub inside_leaf : (builder : BuilderView) (to : ℕ) → IsLeafOpen builder → IsWhiteOutside builder to
@@ -596,3 +599,80 @@ none_ahead builder lines none = rw none (record { inside = tt; order = tt; apart
 
 pub no_task : (text : List ℕ) (task : Option Bool) (lines : List HeldLine) → lines ≡ [] → HaveTask text task lines
 no_task text task lines none = rw none tt
+
+-- ---- lines after definitions
+
+pub none_taken : (builder : BuilderView) (lines : List HeldLine) → AreAhead builder lines
+    → TakesLines builder builder lines 0
+none_taken builder lines ahead = record { within = omega arith; moves = refl; ahead = ahead }
+
+past_line : (from : ℕ) (lines : List HeldLine) (number : ℕ) (line : HeldLine) → slice_get lines number ≡ Some line
+    → past from (take (suc number) lines) ≡ line.next
+past_line from [] number line there = cc
+past_line from (first ∷ lines) zero line there = let same : first ≡ line = cc in ap (λ (l : HeldLine). l.next) same
+past_line from (first ∷ lines) (suc number) line there = past_line first.next lines number line there
+
+-- those up to a line were
+pub taken_to : {old new : BuilderView} {lines : List HeldLine} {number : ℕ} {line : HeldLine} → AreAhead old lines
+    → slice_get lines number ≡ Some line → new ≡ defining old new.definitions line.next
+    → TakesLines old new lines (suc number)
+taken_to {old} {new} {lines} {number} {line} ahead there moves = record {
+  within = omega (arith, slice_get_within lines number line there);
+  moves = moves ∙ ap (defining old new.definitions) (sym (past_line old.at lines number line there));
+  ahead = ahead_after old new lines number line ahead there (ap (λ (b : BuilderView). b.text) moves)
+      (ap (λ (b : BuilderView). b.blocks) moves) (ap (λ (b : BuilderView). b.at) moves);
+}
+
+past_none : (from n : ℕ) → past from (take n []) ≡ from
+past_none from zero = refl
+past_none from (suc n) = refl
+
+past_more : (from : ℕ) (lines : List HeldLine) (taken more n : ℕ) → n ≡ more + taken
+    → past (past from (take taken lines)) (take more (drop taken lines)) ≡ past from (take n lines)
+past_more from lines zero more n is = ap (λ k. past from (take k lines)) (omega (arith, is))
+past_more from [] (suc taken) more n is = past_none from more ∙ sym (past_none from n)
+past_more from (line ∷ lines) (suc taken) more zero is = absurd (omega (arith, is))
+past_more from (line ∷ lines) (suc taken) more (suc n) is = past_more line.next lines taken more n (omega (arith, is))
+
+-- a definition was added between two steps
+pub definition_moves : (old : BuilderView) {first second new : BuilderView} {definitions : List Definition}
+    {start end next to : ℕ} → first ≡ stepped old start → second ≡ defining first definitions end
+    → new ≡ stepped second next → next ≡ to → new ≡ defining old new.definitions to
+definition_moves old begins adds ends is = rw (ends, adds, begins, is) refl
+
+-- and then more of them
+pub more_taken : {old mid new : BuilderView} {lines : List HeldLine} {taken more : ℕ} → TakesLines old mid lines taken
+    → TakesLines mid new (drop taken lines) more → TakesLines old new lines (more + taken)
+more_taken {old} {mid} {new} {lines} {taken} {more} before after =
+    let count : taken + more ≡ more + taken = omega arith in
+    record {
+      within = omega (arith, before.within, after.within, length-drop taken lines);
+      moves = after.moves
+          ∙ (ap (λ (b : BuilderView). defining b new.definitions (past b.at (take more (drop taken lines))))
+          before.moves ∙ ap (defining old new.definitions) (past_more old.at lines taken more (more + taken) refl));
+      ahead = subst (AreAhead new) (drop-drop more taken lines ∙ ap (λ n. drop n lines) count) after.ahead;
+    }
+
+-- where the last of some lines ends
+pub past_is_end : (line : HeldLine) (lines : List HeldLine) → lines_end (line ∷ lines) ≡ past line.next lines
+past_is_end line [] = refl
+past_is_end line (m ∷ lines) = end_inside line m lines ∙ past_is_end m lines
+  where
+    end_inside : (line m : HeldLine) (lines : List HeldLine) → lines_end (line ∷ m ∷ lines) ≡ lines_end (m ∷ lines)
+    end_inside line m lines = simp unary_clauses refl
+
+pub past_end : (from : ℕ) (lines : List HeldLine) → 0 < length lines → past from lines ≡ lines_end lines
+past_end from [] some = absurd (omega (arith, some))
+past_end from (line ∷ lines) some = sym (past_is_end line lines)
+
+pub end_of_last : (lines : List HeldLine) (count : ℕ) (default : HeldLine) → 0 < count → count ≤ length lines
+    → (get_or lines (count - 1) default).next ≡ end_of lines count
+end_of_last lines count default some few =
+    let last : count - 1 < length lines = omega (arith, some, few) in
+    ap (λ (line : Option HeldLine). option_map_or (λ line. line.next) line 0)
+    (sym (slice_get-get_or lines (count - 1) default last))
+
+-- all were taken
+pub all_taken : {old new : BuilderView} {lines : List HeldLine} {taken : ℕ} → TakesLines old new lines taken
+    → length lines ≤ taken → EndsTo old new (past old.at lines)
+all_taken {old} {new} {lines} {taken} takes all = rw (takes.moves, take_all taken lines all) refl

@@ -1,36 +1,139 @@
--- Open containers that are closed: the blocks are the same.
-use Rattle.std.proofs.Common.{◌≡◌, ◌∙◌, ℕ, zero, suc, ◌-◌, ◌<◌, ◌≤◌, Bool, true, false, List, [], ◌∷◌, ◌++◌, Some, None}
-use Rattle.std.proofs.Common.{not, true≢false, length, take, drop, length-take-le, refl, sym, ap, arith}
-use Rattle.std.specs.Prelude.{if◌then◌else◌}
+-- Open containers that are closed, where the blocks are the same, and blocks that are appended in the innermost open
+-- container.
+use Rattle.std.proofs.Common.{◌≡◌, ◌∙◌, ℕ, Bool, true, false, List, [], ◌∷◌, Option, Some, None, refl, sym, ap}
+use Rattle.std.proofs.Common.{true≢false, zero, suc, ◌-◌, ◌<◌, ◌≤◌, ◌++◌, not, length, take, drop, length-take-le}
+use Rattle.std.proofs.Common.{arith, subst, append_assoc, append-nil}
+use Rattle.std.specs.Prelude.{if◌then◌else◌, slice_get}
 use Rattle.std.specs.Option.{option_map}
 use Rattle.std.proofs.lemmas.Option.{same_Some}
 use Rattle.markdown_base.specs.Forest.{Forest, nil, node}
+use Rattle.markdown_base.specs.declared.tag.HeadingLevel.{HeadingLevel}
+use Rattle.markdown_builder.specs.Shown.{Shown, tight_shown, Parts, plain_item, settled_below, shown_item, with_block}
+use Rattle.markdown_builder.specs.TreeLevels.{followed_by, items_changed, roots_changed, with_trees}
+use Rattle.markdown_base.specs.Source.{Source}
+use Rattle.markdown_lines.specs.SourceLines.{SourceLine}
+use Rattle.markdown_lines.specs.DefinitionRules.{divided, divided_in}
+use Rattle.markdown_lines.specs.declared.braces.Braces.{Braces}
+use Rattle.markdown_scan.specs.Entity.{entity_names}
+use Rattle.markdown_block_rules.specs.BlockGrowth.{Block, Kind}
+use Rattle.markdown_block_rules.specs.BlockRules.{Around, block_end, in_no_item, last_braces, last_end, shown_block}
+use Rattle.markdown_block_rules.specs.BlockRules.{shown_blocks, shown_heading, shown_over, shown_setext, shown_text}
+use Rattle.markdown_block_rules.specs.BlockRules.{is_blank_block, is_loose, definitions_in, footnotes_in, label_of}
+use Rattle.markdown_block_rules.specs.BlockRules.{paragraph_lines}
+use Rattle.markdown_plain.specs.Closing.{AreItemsInLists, MayBeIn, MayClose, StandsFor}
+use Rattle.markdown_plain.specs.Frames.{is_list, AreNested, Frame, forgotten, innermost_is, is_quote, rebuilt}
+use Rattle.markdown_plain.specs.Frames.{room_depth}
 use Rattle.markdown_base.specs.declared.item.ItemBody.{ItemBody}
-use Rattle.markdown_base.specs.declared.item.ItemBody.TheVariants as body
 use Rattle.markdown_builder.specs.declared.open_block.OpenBlock.{OpenBlock}
 use Rattle.markdown_builder.specs.BuilderView.{BuilderView, innermost_block, parts_of}
-use Rattle.markdown_builder.specs.Shown.{Parts, Shown, plain_item, settled_below, shown_item, with_block}
-use Rattle.markdown_builder.specs.TreeLevels.{followed_by, with_trees}
-use Rattle.markdown_builder.proofs.LaidLemmas.{followed_by-assoc}
-use Rattle.markdown_base.specs.Source.{Source}
-use Rattle.markdown_block_rules.specs.BlockGrowth as was
-use Rattle.markdown_block_rules.specs.BlockGrowth.{Block, Kind}
-use Rattle.markdown_block_rules.specs.BlockRules.{Around, block_end, in_no_item, is_blank_block, is_loose, last_end}
-use Rattle.markdown_block_rules.specs.BlockRules.{shown_block, shown_blocks, shown_over}
+use Rattle.markdown_builder.proofs.LaidLemmas.{followed_by-assoc, followed_by-nil}
 use Rattle.markdown_plain.specs.declared.pass.Pass.{Pass}
-use Rattle.markdown_plain.specs.Closing.{AreItemsInLists, MayClose, StandsFor}
 use Rattle.markdown_plain.specs.Fitting.{HasBody, PutsBlock, closed, stepped}
-use Rattle.markdown_plain.specs.Frames.{AreNested, Frame, forgotten, innermost_is, is_list, is_quote, rebuilt}
-use Rattle.markdown_plain.specs.Frames.{room_depth}
-use Rattle.markdown_plain.specs.OpenBlocks as blocks
 use Rattle.markdown_plain.specs.OpenBlocks.{outer_of}
 use Rattle.markdown_plain.specs.Settled.{AreOpen, IsBodyOf, IsLooseAs, IsOpen, QuotesEnd, around_in, levels_shown}
-use Rattle.markdown_plain.specs.Settled.{placed_end}
-use Rattle.markdown_plain.proofs.FramesInsideLemmas.{list_alike, list_of_open, quote_alike}
-use Rattle.markdown_plain.proofs.FramesLemmas.{outer_nested, rebuilt_more}
-use Rattle.markdown_plain.proofs.LeafTreesLemmas.{closed_tree, same_block}
-use Rattle.markdown_plain.proofs.OpenBlocksLemmas.{innermost_of_opened, outer_of_these}
-use Rattle.markdown_plain.proofs.TightBlocksLemmas.{items_made_tight}
+use Rattle.markdown_plain.specs.Settled.{placed_end, IsAtEnd, IsBuilt}
+use Rattle.markdown_plain.specs.OpenedFrames.{around_innermost}
+use Rattle.markdown_base.specs.declared.item.ItemBody.TheVariants as body
+use Rattle.markdown_block_rules.specs.BlockGrowth as was
+use Rattle.markdown_plain.specs.OpenBlocks as blocks
+use Rattle.markdown_plain.proofs.FramesLemmas.{list_alike, list_of_open, quote_alike, outer_nested, rebuilt_more}
+use Rattle.markdown_plain.proofs.LeafTreesLemmas.{closed_tree, same_block, innermost_of_opened, outer_of_these}
+
+-- ---- forests one after the other
+
+roots_of_both : (f g : Forest Shown)
+    → roots_changed tight_shown (followed_by f g)
+    ≡ followed_by (roots_changed tight_shown f) (roots_changed tight_shown g)
+roots_of_both nil g = refl
+roots_of_both (node a below after) g = ap (λ rest. node (tight_shown a) below rest) (roots_of_both after g)
+
+items_of_both : (f g : Forest Shown)
+    → items_changed tight_shown (followed_by f g)
+    ≡ followed_by (items_changed tight_shown f) (items_changed tight_shown g)
+items_of_both nil g = refl
+items_of_both (node a below after) g =
+    ap (λ rest. node a (roots_changed tight_shown below) rest) (items_of_both after g)
+
+-- ---- blocks in an item
+
+-- in an item of a list that is tight, or not
+abbrev in_item : Bool → ℕ → Around
+in_item tight marked = record { tight = tight; marked = marked }
+
+text_made_tight : (s : Source) (marked : ℕ) (b : Block) (lines : List SourceLine)
+    → roots_changed tight_shown (shown_text s marked b body.Paragraph lines)
+    ≡ shown_text s marked b body.TightParagraph lines
+text_made_tight s marked b [] = refl
+text_made_tight s marked b (l ∷ lines) = refl
+
+heading_stays : (s : Source) (start end : ℕ) (level : HeadingLevel) (braces : Option Braces) (below : Forest Shown)
+    → roots_changed tight_shown (shown_heading s start end level braces below)
+    ≡ shown_heading s start end level braces below
+heading_stays s start end level None below = refl
+heading_stays s start end level (Some braces) below = refl
+
+setext_stays : (s : Source) (marked : ℕ) (b : Block) (level : HeadingLevel) (lines : List SourceLine)
+    → roots_changed tight_shown (shown_setext s marked b level lines) ≡ shown_setext s marked b level lines
+setext_stays s marked b level [] = refl
+setext_stays s marked b level (l ∷ lines) =
+    heading_stays s l.left.scanned b.last level (last_braces s.syntax (l ∷ lines)) _
+
+-- a block directly in an item, which is no item
+block_made_tight : (s : Source) (marked : ℕ) (b : Block) (end : ℕ) (below : Forest Block)
+    (inside : Around → Forest Shown) (kind : Kind) → MayBeIn false kind
+    → roots_changed tight_shown (shown_block s (in_item false marked) b end below inside kind)
+    ≡ shown_block s (in_item true marked) b end below inside kind
+block_made_tight s marked b end below inside (was.paragraph_leaf lines) may =
+    text_made_tight s marked b (divided (entity_names s.syntax) s.text lines).lines
+block_made_tight s marked b end below inside (was.underlined_leaf level lines) may =
+    setext_stays s marked b level (divided (entity_names s.syntax) s.text lines).lines
+block_made_tight s marked b end below inside (was.heading_leaf found) may =
+    heading_stays s b.start end found.level found.braces _
+block_made_tight s marked b end below inside (was.item_container indent) may = absurd (true≢false (may refl))
+block_made_tight s marked b end below inside other may = refl
+
+blocks_made_tight : (s : Source) (marked : ℕ) (blocks : Forest Block) → AreItemsInLists false blocks
+    → roots_changed tight_shown (shown_blocks s (in_item false marked) blocks)
+    ≡ shown_blocks s (in_item true marked) blocks
+unfolding shown_blocks
+blocks_made_tight s marked nil are = refl
+blocks_made_tight s marked (node b below after) are =
+    let end = block_end b (last_end b.first below) b.kind in
+    let inside : Around → Forest Shown = λ around. shown_blocks s around below in
+    roots_of_both (shown_block s (in_item false marked) b end below inside b.kind)
+    (shown_blocks s (in_item false marked) after)
+    ∙ (ap (λ first. followed_by first (roots_changed tight_shown (shown_blocks s (in_item false marked) after)))
+    (block_made_tight s marked b end below inside b.kind are.0)
+    ∙ ap (λ rest. followed_by (shown_block s (in_item true marked) b end below inside b.kind) rest)
+    (blocks_made_tight s marked after are.2))
+
+-- ---- items
+
+-- a block directly in a list, which is an item or a blank line
+item_made_tight : (s : Source) (b : Block) (end : ℕ) (below : Forest Block) (kind : Kind) → MayBeIn true kind
+    → AreItemsInLists (is_list kind) below
+    → items_changed tight_shown
+    (shown_block s in_no_item b end below (λ around. shown_blocks s around below) kind)
+    ≡ shown_block s (in_item true 0) b end below (λ around. shown_blocks s around below) kind
+item_made_tight s b end below was.blank_line may are = refl
+item_made_tight s b end below (was.item_container indent) may are =
+    ap (λ inside. shown_over b.start end (body.ListItem indent) None inside) (blocks_made_tight s b.first below are)
+item_made_tight s b end below other may are = absurd (true≢false (sym (may refl)))
+
+-- the items of a tight list, with the paragraphs directly in them made tight
+pub items_made_tight : (s : Source) (items : Forest Block) → AreItemsInLists true items
+    → items_changed tight_shown (shown_blocks s in_no_item items)
+    ≡ shown_blocks s (record { tight = true; marked = 0 }) items
+unfolding shown_blocks
+items_made_tight s nil are = refl
+items_made_tight s (node b below after) are =
+    let end = block_end b (last_end b.first below) b.kind in
+    let inside : Around → Forest Shown = λ around. shown_blocks s around below in
+    items_of_both (shown_block s in_no_item b end below inside b.kind) (shown_blocks s in_no_item after)
+    ∙ (ap (λ first. followed_by first (items_changed tight_shown (shown_blocks s in_no_item after)))
+    (item_made_tight s b end below b.kind are.0 are.1)
+    ∙ ap (λ rest. followed_by (shown_block s (in_item true 0) b end below inside b.kind) rest)
+    (items_made_tight s after are.2))
 
 -- ---- the blocks
 
@@ -464,3 +567,184 @@ list_in_the_way s old new depth frames inside few may listed forgets =
     some_open : (n : ℕ) → innermost_is is_list (take n frames) ≡ true → 0 < n
     some_open zero test = cc (test)
     some_open (suc n) test = omega arith
+
+-- ---- what is shown
+
+-- they are put at the end of the innermost level
+levels_appended : (s : Source) (around : Around) (frames : List Frame) (inside new : Forest Block)
+    → levels_shown s around frames (followed_by inside new)
+    ≡ with_trees (levels_shown s around frames inside) (shown_blocks s (around_innermost around frames) new)
+levels_appended s around [] inside new = ap (λ f. f ∷ []) (shown_of_both s around inside new)
+levels_appended s around (f ∷ []) inside new =
+    ap (λ ls. shown_blocks s around f.before ∷ ls)
+    (levels_appended s (around_in f.block f.block.kind) [] inside new)
+levels_appended s around (f ∷ g ∷ frames) inside new =
+    ap (λ ls. shown_blocks s around f.before ∷ ls)
+    (levels_appended s (around_in f.block f.block.kind) (g ∷ frames) inside new)
+
+-- ---- what is gathered from blocks in the order of the text, where each block has some of its own
+
+pub record IsGathered {A : Type 0} (own : Block → List A) (all : Forest Block → List A) : Type 0 where
+  pub none : all nil ≡ []
+  pub block : (b : Block) (below after : Forest Block) → all (node b below after) ≡ own b ++ (all below ++ all after)
+
+gathered_followed : {A : Type 0} (own : Block → List A) (all : Forest Block → List A) → IsGathered own all
+    → (blocks new : Forest Block) → all (followed_by blocks new) ≡ all blocks ++ all new
+gathered_followed own all is nil new = ap (λ xs. xs ++ all new) (sym is.none)
+gathered_followed own all is (node b below after) new =
+    is.block b below (followed_by after new)
+    ∙ (ap (λ xs. own b ++ (all below ++ xs)) (gathered_followed own all is after new)
+    ∙ (ap (λ xs. own b ++ xs) (sym (append_assoc (all below) (all after) (all new)))
+    ∙ (sym (append_assoc (own b) (all below ++ all after) (all new))
+    ∙ ap (λ xs. xs ++ all new) (sym (is.block b below after)))))
+
+-- with an open container around blocks
+pub gathered_around : {A : Type 0} (own : Block → List A) (all : Forest Block → List A) → IsGathered own all
+    → (f : Frame) (blocks : Forest Block)
+    → all (followed_by f.before (node f.block blocks nil)) ≡ (all f.before ++ own f.block) ++ all blocks
+gathered_around own all is f blocks =
+    gathered_followed own all is f.before (node f.block blocks nil)
+    ∙ (ap (λ xs. all f.before ++ xs) (is.block f.block blocks nil
+    ∙ ap (λ xs. own f.block ++ xs) (ap (λ xs. all blocks ++ xs) is.none ∙ append-nil (all blocks)))
+    ∙ sym (append_assoc (all f.before) (own f.block) (all blocks)))
+
+gathered_appended : {A : Type 0} (own : Block → List A) (all : Forest Block → List A) → IsGathered own all
+    → (frames : List Frame) (inside new : Forest Block)
+    → all (rebuilt frames (followed_by inside new)) ≡ all (rebuilt frames inside) ++ all new
+gathered_appended own all is [] inside new = gathered_followed own all is inside new
+gathered_appended own all is (f ∷ frames) inside new =
+    gathered_around own all is f (rebuilt frames (followed_by inside new))
+    ∙ (ap (λ xs. (all f.before ++ own f.block) ++ xs) (gathered_appended own all is frames inside new)
+    ∙ (sym (append_assoc (all f.before ++ own f.block) (all (rebuilt frames inside)) (all new))
+    ∙ ap (λ xs. xs ++ all new) (sym (gathered_around own all is f (rebuilt frames inside)))))
+
+pub definitions_gathered : (s : Source)
+    → IsGathered (λ b. (divided (entity_names s.syntax) s.text (paragraph_lines b.kind)).definitions)
+    (definitions_in s)
+unfolding definitions_in
+definitions_gathered s = record { none = refl; block = λ b below after. refl }
+
+pub footnotes_gathered : IsGathered (λ b. label_of b.kind) footnotes_in
+unfolding footnotes_in
+footnotes_gathered = record { none = refl; block = λ b below after. refl }
+
+pub definitions_appended : (s : Source) (frames : List Frame) (inside new : Forest Block)
+    → definitions_in s (rebuilt frames (followed_by inside new))
+    ≡ definitions_in s (rebuilt frames inside) ++ definitions_in s new
+definitions_appended s frames inside new =
+    gathered_appended _ (definitions_in s) (definitions_gathered s) frames inside new
+
+pub footnotes_appended : (frames : List Frame) (inside new : Forest Block)
+    → footnotes_in (rebuilt frames (followed_by inside new)) ≡ footnotes_in (rebuilt frames inside) ++ footnotes_in new
+footnotes_appended frames inside new = gathered_appended _ footnotes_in footnotes_gathered frames inside new
+
+-- ---- where they end
+
+pub end_appended : (before : ℕ) (frames : List Frame) (inside new : Forest Block)
+    → placed_end before frames (followed_by inside new) ≡ last_end (placed_end before frames inside) new
+end_appended before [] inside new = end_of_both before inside new
+end_appended before (f ∷ frames) inside new = end_appended f.block.first frames inside new
+
+-- ---- what is built
+
+-- with more texts a body is that of the same container
+body_after : (texts more : List (List ℕ)) (kind : Kind) (b : ItemBody) → IsBodyOf texts kind b
+    → IsBodyOf (texts ++ more) kind b
+body_after texts more was.quote_container b is = is
+body_after texts more (was.alert_container kind) b is = is
+body_after texts more (was.list_container marker) b is = is
+body_after texts more (was.item_container indent) b is = is
+body_after texts more (was.footnote_container label) b is = (is.0, is.1, get_after texts more is.0.0 label is.2)
+  where
+    get_after : (xs ys : List (List ℕ)) (n : ℕ) (x : List ℕ) → slice_get xs n ≡ Some x → slice_get (xs ++ ys) n ≡ Some x
+    get_after [] ys n x e = absurd (grind (arith, e))
+    get_after (y ∷ xs) ys zero x e = e
+    get_after (y ∷ xs) ys (suc n) x e = get_after xs ys n x e
+body_after texts more other b is = absurd is
+
+pub open_after : (texts more : List (List ℕ)) (blocks : List OpenBlock) (frames : List Frame)
+    → AreOpen texts blocks frames → AreOpen (texts ++ more) blocks frames
+open_after texts more [] [] are = tt
+open_after texts more [] (f ∷ frames) are = absurd are
+open_after texts more (block ∷ blocks) [] are = absurd are
+open_after texts more (block ∷ blocks) (f ∷ frames) are = (
+  record { start = are.0.start; body = body_after texts more f.block.kind block.body are.0.body },
+  open_after texts more blocks frames are.1,
+)
+
+-- a builder has appended, in the innermost of these open containers, what is shown of some blocks, with the texts that
+-- this refers to, and what they define
+pub record AppendsBlocks (s : Source) (frames : List Frame) (new : Forest Block) (old now : BuilderView) : Type 0 where
+  pub more : List (List ℕ)
+  pub text : now.text ≡ old.text
+  pub blocks : now.blocks ≡ old.blocks
+  pub outside : now.leaf ≡ false
+  pub levels : now.levels ≡ with_trees old.levels (shown_blocks s (around_innermost in_no_item frames) new)
+  pub texts : now.texts ≡ old.texts ++ more
+  pub definitions : now.definitions ≡ old.definitions ++ definitions_in s new
+  pub footnotes : now.footnotes ≡ old.footnotes ++ footnotes_in new
+
+pub appended_is_built : (s : Source) (frames : List Frame) (inside new : Forest Block) (old now : BuilderView)
+    → AppendsBlocks s frames new old now → IsBuilt s old frames inside → IsBuilt s now frames (followed_by inside new)
+appended_is_built s frames inside new old now appends built =
+    let open_still : AreOpen now.texts old.blocks frames =
+    subst (λ texts. AreOpen texts old.blocks frames) (sym appends.texts)
+    (open_after old.texts appends.more old.blocks frames built.blocks) in
+    record {
+      text = appends.text ∙ built.text;
+      blocks = subst (λ blocks. AreOpen now.texts blocks frames) (sym appends.blocks) open_still;
+      nested = built.nested;
+      outside = appends.outside;
+      levels = appends.levels ∙ (ap (λ ls. with_trees ls (shown_blocks s (around_innermost in_no_item frames) new))
+          built.levels ∙ sym (levels_appended s in_no_item frames inside new));
+      definitions = appends.definitions ∙ (ap (λ ds. ds ++ definitions_in s new) built.definitions
+          ∙ sym (definitions_appended s frames inside new));
+      footnotes = appends.footnotes ∙ (ap (λ ls. ls ++ footnotes_in new) built.footnotes
+          ∙ sym (footnotes_appended frames inside new));
+    }
+
+-- ---- a blank line, which changes none of them
+
+nothing_shown : (s : Source) (around : Around) (b : Block) → b.kind ≡ was.blank_line
+    → shown_blocks s around (node b nil nil) ≡ nil
+unfolding shown_blocks
+nothing_shown s around b blank =
+    ap (λ kind. followed_by (shown_block s around b (block_end b b.first kind) nil (λ inside. nil) kind) nil) blank
+
+nothing_defined : (s : Source) (b : Block) → b.kind ≡ was.blank_line → definitions_in s (node b nil nil) ≡ []
+unfolding definitions_in divided_in
+nothing_defined s b blank =
+    ap (λ kind. (divided (entity_names s.syntax) s.text (paragraph_lines kind)).definitions ++ ([] ++ [])) blank
+
+nothing_named : (b : Block) → b.kind ≡ was.blank_line → footnotes_in (node b nil nil) ≡ []
+unfolding footnotes_in
+nothing_named b blank = ap (λ kind. label_of kind ++ ([] ++ [])) blank
+
+with_no_trees : {A : Type 0} (levels : List (Forest A)) → with_trees levels nil ≡ levels
+with_no_trees [] = refl
+with_no_trees (level ∷ []) = ap (λ f. f ∷ []) (followed_by-nil level)
+with_no_trees (level ∷ inner ∷ levels) = ap (λ ls. level ∷ ls) (with_no_trees (inner ∷ levels))
+
+pub blank_is_built : (s : Source) (view : BuilderView) (frames : List Frame) (inside : Forest Block) (b : Block)
+    → b.kind ≡ was.blank_line → IsBuilt s view frames inside
+    → IsBuilt s view frames (followed_by inside (node b nil nil))
+blank_is_built s view frames inside b blank built =
+    appended_is_built s frames inside (node b nil nil) view view (record {
+      more = [];
+      text = refl;
+      blocks = refl;
+      outside = built.outside;
+      levels = sym (ap (with_trees view.levels) (nothing_shown s (around_innermost in_no_item frames) b blank)
+          ∙ with_no_trees view.levels);
+      texts = sym (append-nil view.texts);
+      definitions = sym (ap (λ ds. view.definitions ++ ds) (nothing_defined s b blank) ∙ append-nil view.definitions);
+      footnotes = sym (ap (λ ls. view.footnotes ++ ls) (nothing_named b blank) ∙ append-nil view.footnotes);
+    }) built
+
+pub blank_is_at_end : (pass : Pass) (frames : List Frame) (inside : Forest Block) (b : Block)
+    → b.kind ≡ was.blank_line → IsAtEnd pass frames inside → IsAtEnd pass frames (followed_by inside (node b nil nil))
+blank_is_at_end pass frames inside b blank ends = record {
+  at = ends.at ∙ sym (end_appended 0 frames inside (node b nil nil)
+      ∙ ap (λ kind. if is_blank_block kind then placed_end 0 frames inside else block_end b b.first kind) blank);
+  quotes = ends.quotes;
+}

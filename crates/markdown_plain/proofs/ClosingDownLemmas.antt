@@ -1,42 +1,143 @@
--- Open blocks that are closed one after another, from the innermost on, and room for a block: the blocks are the same.
-use Rattle.std.proofs.Common.{◌≡◌, ◌∙◌, ℕ, zero, suc, ◌+◌, ◌-◌, ◌≤◌, List, [], ◌∷◌, ◌++◌, Option, Some, None, true}
-use Rattle.std.proofs.Common.{false, not, ap}
-use Rattle.std.proofs.Common.{arith, drop, length, refl, subst, sym, take, take_all, true≢false}
-use Rattle.std.proofs.lemmas.List.{drop_all, length-take, take-append-drop, take-take}
+-- Open blocks that are closed one after another, from the innermost on, and room for a block, around a list among
+-- them: the blocks are the same.
+use Rattle.std.proofs.Common.{◌≡◌, ℕ, ◌-◌, Bool, true, false, List, [], ◌∷◌, ◌++◌, None, arith, append_assoc, length}
+use Rattle.std.proofs.Common.{map, take, drop, refl, sym, ap, ◌∙◌, Option, Some, zero, suc, ◌+◌, ◌≤◌, not, subst}
+use Rattle.std.proofs.Common.{take_all, true≢false}
+use Rattle.std.proofs.lemmas.List.{drop_at, length-append, take_at, drop_all, length-take, take-append-drop, take-take}
+use Rattle.std.specs.Prelude.{if◌then◌else◌}
 use Rattle.markdown_base.specs.Forest.{Forest, nil}
-use Rattle.markdown_builder.specs.BuilderView.{BuilderView}
 use Rattle.markdown_builder.specs.TreeLevels.{followed_by}
-use Rattle.markdown_builder.specs.declared.open_block.OpenBlock.{OpenBlock}
+use Rattle.markdown_lines.specs.declared.list_marker.ListMarker.{ListMarker}
 use Rattle.markdown_base.specs.Source.{Source}
 use Rattle.markdown_lines.specs.SourceLines.{SourceLine}
-use Rattle.markdown_block_rules.specs.BlockGrowth.{Block, is_nil}
-use Rattle.markdown_block_rules.specs.BlockRules.{ends_blank}
-use Rattle.markdown_plain.proofs.HasRoomLemmas.{IsRoom, room_is}
-use Rattle.markdown_plain.proofs.LeafTreesLemmas.{on_test}
-use Rattle.markdown_plain.specs.declared.looseness.Looseness.{Looseness}
+use Rattle.markdown_block_rules.specs.BlockGrowth.{Block, goes_on, line_block, next_item, with_line, is_nil}
+use Rattle.markdown_plain.specs.Frames.{AreContainers, AreNested, Frame, Reached, innermost_is, is_list, reached}
+use Rattle.markdown_plain.specs.Frames.{rebuilt, room_depth, touched}
 use Rattle.markdown_plain.specs.declared.pass.Pass.{Pass}
-use Rattle.markdown_plain.specs.Beginning.{HoldsLast}
+use Rattle.markdown_plain.specs.Beginning.{HoldsLast, HoldsNone}
+use Rattle.markdown_plain.specs.Closing.{AreItemsInLists, MayEnd, MayClose}
+use Rattle.markdown_plain.specs.OpenBlocks.{without_leaf, has_leaf, outer_of}
+use Rattle.markdown_plain.specs.OpenLeaves.{leaf_block, HoldsParagraph, IsOpenIn, IsPlaced}
+use Rattle.markdown_plain.specs.Settled.{AreOpen, IsBuilt, BlanksKnown, IsLooseAs, IsLooseBefore}
+use Rattle.markdown_plain.specs.Standing.{HasLast, KnowsLast, with_last}
+use Rattle.markdown_builder.specs.BuilderView.{BuilderView}
+use Rattle.markdown_builder.specs.declared.open_block.OpenBlock.{OpenBlock}
+use Rattle.markdown_block_rules.specs.BlockRules.{ends_blank}
+use Rattle.markdown_plain.specs.declared.looseness.Looseness.{Looseness}
 use Rattle.markdown_plain.specs.Closable.{AreClosable, IsClosable}
-use Rattle.markdown_plain.specs.Closing.{MayClose, MayEnd}
-use Rattle.markdown_plain.specs.Frames.{AreNested, Frame, innermost_is, is_list, rebuilt, room_depth}
-use Rattle.markdown_plain.specs.OpenBlocks as own
-use Rattle.markdown_plain.specs.OpenBlocks.{has_leaf, outer_of, without_leaf}
-use Rattle.markdown_plain.specs.OpenLeaves as leaves
-use Rattle.markdown_plain.specs.OpenLeaves.{HoldsParagraph, IsOpenIn, IsPlaced, leaf_block}
 use Rattle.markdown_plain.specs.OpenedFrames.{MayOpen}
-use Rattle.markdown_plain.specs.PassSteps.{ClosesBlock, ClosesDown, HasOnly, IsRoomIn, MakesRoom}
-use Rattle.markdown_plain.specs.PassSteps.{MayCloseTo}
-use Rattle.markdown_plain.specs.PassSteps.{between, opened}
-use Rattle.markdown_plain.specs.Settled.{AreOpen, BlanksKnown, IsBuilt, IsLooseAs, IsLooseBefore}
-use Rattle.markdown_plain.specs.Standing.{with_last}
+use Rattle.markdown_plain.specs.PassSteps.{ClosesBlock, ClosesDown, HasOnly, IsRoomIn, MakesRoom, MayCloseTo, between}
+use Rattle.markdown_plain.specs.PassSteps.{opened}
+use Rattle.markdown_plain.specs.OpenBlocks as own
+use Rattle.markdown_plain.specs.OpenLeaves as leaves
+use Rattle.markdown_plain.proofs.FramesLemmas.{innermost_apart, marker_of_list, by_test, block_begins, list_ends}
+use Rattle.markdown_plain.proofs.FramesLemmas.{outer_taken, reached_parts, rebuilt_in}
+use Rattle.markdown_plain.proofs.OpenTablesLemmas.{without_built, without_open, IsRoom, room_is, built_outside}
+use Rattle.markdown_plain.proofs.OpenTablesLemmas.{open_has_leaf}
+use Rattle.markdown_plain.proofs.LeafTreesLemmas.{on_test, length_of_outer, take_of_outer}
 use Rattle.markdown_plain.proofs.ClosableLemmas.{closed_here}
 use Rattle.markdown_plain.proofs.ClosedFramesLemmas.{last_kept, list_in_the_way, no_list_closed, one_less}
 use Rattle.markdown_plain.proofs.ClosedFramesLemmas.{open_containers}
-use Rattle.markdown_plain.proofs.FramesLemmas.{rebuilt_in}
-use Rattle.markdown_plain.proofs.OpenBlocksLemmas.{length_of_outer, take_of_outer}
-use Rattle.markdown_plain.proofs.OpenTablesLemmas.{built_outside, open_has_leaf}
-use Rattle.markdown_plain.proofs.RoomLemmas.{last_open}
 use Rattle.markdown_plain.proofs.OpenedFramesLemmas.{as_many_containers, list_innermost, room_is_free}
+
+-- ---- room around a list
+
+-- the containers around such a block, of those that a line reaches: all, or all but the list
+record IsRoomOf (frames outer inner : List Frame) (n : ℕ) : Type 0 where
+  outside : take n frames ≡ outer
+  inside : drop n frames ≡ inner
+
+parted_at : (frames outer inner : List Frame) (n : ℕ) → outer ++ inner ≡ frames → n ≡ length outer
+    → IsRoomOf frames outer inner n
+parted_at frames outer inner n parts is =
+    rw (← parts) (record { outside = take_at outer inner n (sym is); inside = drop_at outer inner n (sym is) })
+
+module _ (s : Source) (frames : List Frame) (inside : Forest Block) (l : SourceLine) (are : AreContainers frames)
+    (nested : AreNested frames) where
+  depth_reached : (list : Bool) → innermost_is is_list (reached s frames inside l).outer ≡ list
+      → room_depth (length (reached s frames inside l).outer) frames
+      ≡ (if list then length (reached s frames inside l).outer - 1 else length (reached s frames inside l).outer)
+  depth_reached list is = rw (outer_taken s frames inside l, is) refl
+
+  -- a line makes of blocks the same with what it begins after them, where nothing goes on and no item begins
+  pub begins_in_room :
+      goes_on s (rebuilt (reached s frames inside l).inner inside) (reached s frames inside l).rest ≡ None
+      → ((marker : ListMarker) → next_item s (reached s frames inside l).rest marker ≡ None)
+      → with_line s (rebuilt frames inside) l
+      ≡ rebuilt (map (touched l) (take (room_depth (length (reached s frames inside l).outer) frames) frames))
+      (followed_by (rebuilt (drop (room_depth (length (reached s frames inside l).outer) frames) frames) inside)
+      (line_block s (reached s frames inside l).rest))
+  begins_in_room none no_item = by_test (innermost_is is_list r.outer) (λ is.
+      let list = innermost_apart is_list r.outer is in
+      let marked = marker_of_list list.last.block.kind list.passes in
+      let many = ap length list.are ∙ length-append list.outer (list.last ∷ []) in
+      let size : n ≡ length list.outer = depth_reached true is ∙ omega (arith, many) in
+      let parts : list.outer ++ (list.last ∷ r.inner) ≡ frames = sym (append_assoc list.outer (list.last ∷ []) r.inner)
+      ∙ (ap (λ (fs : List Frame). fs ++ r.inner) (sym list.are) ∙ reached_parts s frames inside l) in
+      list_ends s frames inside l are nested list.outer list.last marked.marker list.are marked.is none
+      (no_item marked.marker)
+      ∙ same_made list.outer (list.last ∷ r.inner) (parted_at frames list.outer (list.last ∷ r.inner) n parts size))
+      (λ plain. block_begins s frames inside l are nested none plain
+      ∙ same_made r.outer r.inner (parted_at frames r.outer r.inner n (reached_parts s frames inside l)
+      (depth_reached false plain)))
+    where
+      r : Reached
+      r = reached s frames inside l
+
+      n : ℕ
+      n = room_depth (length r.outer) frames
+
+      same_made : (outer inner : List Frame) → IsRoomOf frames outer inner n
+          → rebuilt (map (touched l) outer) (followed_by (rebuilt inner inside) (line_block s r.rest))
+          ≡ rebuilt (map (touched l) (take n frames))
+          (followed_by (rebuilt (drop n frames) inside) (line_block s r.rest))
+      same_made outer inner is = rw (is.outside, is.inside) refl
+
+-- ---- what is open before the line
+
+-- open containers, whether a paragraph is held back in them or not
+pub record HasOpen (s : Source) (pass : Pass) (frames : List Frame) (blocks : Forest Block) : Type 0 where
+  pub texts : List (List ℕ)
+  pub are : AreOpen texts (without_leaf pass.placing.builder) frames
+  pub nested : AreNested frames
+  pub items : AreItemsInLists false (rebuilt frames blocks)
+
+built_open : (s : Source) (pass : Pass) (frames : List Frame) (inside blocks : Forest Block)
+    → IsBuilt s pass.placing.builder frames inside → AreItemsInLists false (rebuilt frames blocks)
+    → HasOpen s pass frames blocks
+built_open s pass frames inside blocks built items = record {
+  texts = pass.placing.builder.texts;
+  are = rw (without_built s pass.placing.builder frames inside built) built.blocks;
+  nested = built.nested;
+  items = items;
+}
+
+pub last_open : (s : Source) (pass : Pass) (frames : List Frame) (inside : Forest Block) (last : Option Block)
+    → HoldsLast s pass frames inside last → HasOpen s pass frames (with_last inside last)
+last_open s pass frames inside None holds =
+    built_open s pass frames inside inside holds.0.stands.built holds.0.stands.items
+last_open s pass frames inside (Some b) holds = by_held holds.0 holds.1
+  where
+    by_held : (held : Option (List SourceLine)) → MayEnd s pass frames inside b held
+        → HasOpen s pass frames (followed_by inside (leaf_block b))
+    by_held None may = record {
+      texts = pass.placing.builder.texts;
+      are = rw (without_open s pass.placing.builder frames inside b may.unended.1) may.unended.1.around.blocks;
+      nested = may.unended.1.around.nested;
+      items = may.items;
+    }
+    by_held (Some sources) may =
+        built_open s pass frames inside (followed_by inside (leaf_block b)) may.unended.built may.items
+
+-- what has not ended, whether or not it goes on in some line
+pub holds_last : (s : Source) (pass : Pass) (frames : List Frame) (inside : Forest Block) (last : Option Block)
+    → HasLast s pass frames inside last → HoldsLast s pass frames inside last
+holds_last s pass frames inside None has = (has.0, has.1)
+holds_last s pass frames inside (Some b) has = (has.0, has.1, none has.0 has.2)
+  where
+    none : (held : Option (List SourceLine)) → KnowsLast pass b held → HoldsNone pass held
+    none None knows = knows.2
+    none (Some sources) knows = tt
 
 -- ---- the leaf has ended
 
@@ -115,9 +216,9 @@ leaf_ended old new is depth few =
 -- ---- one block more is closed
 
 -- all but the innermost of the first of some blocks
-outer_taken : (n : ℕ) (blocks these : List OpenBlock) → these ≡ take (suc n) blocks → length these ≡ suc n
+outer_of_taken : (n : ℕ) (blocks these : List OpenBlock) → these ≡ take (suc n) blocks → length these ≡ suc n
     → outer_of these ≡ take n blocks
-outer_taken n blocks these are many =
+outer_of_taken n blocks these are many =
     let fewer = length_of_outer these in
     sym (take_all n (outer_of these) (omega (arith, fewer, many)))
     ∙ (take_of_outer n these (omega (arith, many)) ∙ (ap (take n) are ∙ take-take n (suc n) blocks (omega arith)))
@@ -137,7 +238,7 @@ one_closed old mid new n down many closes =
           let left = length-take (suc n) (without_leaf old.placing.builder) in
           absurd (omega (arith, few, many, are, left, ap (λ (bs : List OpenBlock). length bs) all));
       are = ap (λ (b : BuilderView). b.blocks) closes.closes
-          ∙ outer_taken n (without_leaf old.placing.builder) mid.placing.builder.blocks down.are many;
+          ∙ outer_of_taken n (without_leaf old.placing.builder) mid.placing.builder.blocks down.are many;
       text = ap (λ (b : BuilderView). b.text) closes.closes ∙ down.text;
       ended = ap (λ (p : Pass). p.lines.items) closes.same ∙ down.ended;
       unheld = λ held. ap (λ (p : Pass). p.blanks.items) closes.same ∙ down.unheld held;
@@ -267,9 +368,9 @@ AddsBlock now new =
     → (is_nil inside ≡ false → BlanksKnown now.looseness.blank_from 0 frames inside) → IsLooseBefore new frames inside
 
 -- where a block may begin, it is recorded that it does
-pub block_begins : (s : Source) (now : Pass) (new : Looseness) (frames : List Frame) (inside : Forest Block)
+pub looseness_begins : (s : Source) (now : Pass) (new : Looseness) (frames : List Frame) (inside : Forest Block)
     → AddsBlock now new → IsFree s now frames inside → IsLooseBefore new frames inside
-block_begins s now new frames inside adds is =
+looseness_begins s now new frames inside adds is =
     adds now.placing.builder.texts frames inside is.built.blocks is.built.nested is.free is.loose is.known
 
 -- the containers around what is held back are nested
@@ -318,7 +419,7 @@ room_made old down now new depth closes list adds =
           (only_containers s old down depth frames inside last may closes) list in
           record {
             built = free.built;
-            loose = block_begins s now new _ _ adds free;
+            loose = looseness_begins s now new _ _ adds free;
             lines = ap (λ (p : Pass). p.lines.items) rest.same ∙ closes.ended;
             blanks = ap (λ (p : Pass). p.blanks.items) rest.same
                 ∙ closes.unheld (unheld_in s old depth frames inside last may);

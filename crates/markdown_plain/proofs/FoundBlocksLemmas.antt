@@ -1,37 +1,56 @@
--- What a reader of the rest of a line finds is what the line begins, as the definition says.
+-- What a reader of the rest of a line finds is what the line begins, as the definition says, in the containers where
+-- there is room for it; and text that is found there, as a line of a paragraph.
 use Rattle.std.proofs.Common.{◌≡◌, ℕ, ◌+◌, ◌&&◌, ◌||◌, ◌==◌, Bool, true, false, List, Option, Some, None, refl, sym, ap}
-use Rattle.std.proofs.Common.{◌∙◌}
+use Rattle.std.proofs.Common.{◌∙◌, subst, inl, inr, ◌<◌, ◌≤◌, length, drop, arith}
 use Rattle.std.proofs.lemmas.Option.{none-some}
-use Rattle.std.specs.Prelude.{if◌then◌else◌, unwrap_or}
+use Rattle.std.specs.Prelude.{if◌then◌else◌, unwrap_or, slice_range, slice_index}
 use Rattle.std.specs.List.{list_all, prefix_len}
 use Rattle.std.specs.Option.{option_and_then}
 use Rattle.std.proofs.lemmas.Bool.{true≢false}
+use Rattle.std.proofs.lemmas.Bool.Decides.{eqb_tells, nat_tests}
+use Rattle.std.proofs.lemmas.List.Sums.{prefix_len-le-length, prefix_len_stops}
 use Rattle.markdown_base.specs.Syntax.{any_metadata}
 use Rattle.markdown_base.specs.Forest.{Forest}
 use Rattle.markdown_base.specs.declared.syntax.Syntax.{Syntax}
 use Rattle.markdown_base.specs.declared.tag.MetadataBlockKind.{MetadataBlockKind}
-use Rattle.markdown_base.specs.declared.tag.MetadataBlockKind.TheVariants as metadata
 use Rattle.markdown_scan.specs.LineStart.{LineLeft, leading_space}
-use Rattle.markdown_lines.specs.BlockBeginnings as beginning
 use Rattle.markdown_base.specs.Source.{Source}
 use Rattle.markdown_lines.specs.BlockBeginnings.{Beginning, begins, begins_after, is_paragraph, metadata_begun}
 use Rattle.markdown_lines.specs.BlockBeginnings.{metadata_in_line}
 use Rattle.markdown_lines.specs.BlockStarts.{IsSameLine, begins_unless_blank, beginning_found, left_at, line_at}
 use Rattle.markdown_lines.specs.BlockStarts.{source_read}
-use Rattle.markdown_lines.specs.Lines.{is_space_or_tab}
+use Rattle.markdown_lines.specs.Lines.{is_space_or_tab, IsLineFrom}
 use Rattle.markdown_lines.specs.MetadataBlocks.{are_of_metadata, line_opens, lines_at, metadata_opened, opened_before}
 use Rattle.markdown_lines.specs.Positions.{left_from}
-use Rattle.markdown_lines.specs.SourceLines.{SourceLine, is_blank_rest}
+use Rattle.markdown_lines.specs.SourceLines.{SourceLine, is_blank_rest, text_line}
 use Rattle.markdown_lines.specs.declared.block_start.Before.{Before}
 use Rattle.markdown_lines.specs.declared.block_start.BlockStart.{BlockStart}
-use Rattle.markdown_lines.specs.declared.block_start.BlockStart.TheVariants as start
 use Rattle.markdown_lines.specs.declared.line_reader.LineReader.{LineReader}
-use Rattle.markdown_block_rules.specs.BlockGrowth.{Block}
+use Rattle.markdown_block_rules.specs.BlockGrowth.{Block, Kind, begun_by, content_of, inside_of, new_blocks}
 use Rattle.markdown_plain.specs.declared.beginnings.LineRest.{LineRest}
 use Rattle.markdown_plain.specs.declared.pass.Pass.{Pass}
-use Rattle.markdown_plain.specs.Beginning.{IsFirst, IsFound, IsHere, IsInside, IsLeft, Turn, first, later}
-use Rattle.markdown_plain.specs.Frames.{Frame}
+use Rattle.markdown_plain.specs.Beginning.{IsFirst, IsFound, IsHere, IsInside, IsLeft, Turn, first, later, HasRoom}
+use Rattle.markdown_plain.specs.Beginning.{MayBegin, MayBeginBlock}
+use Rattle.markdown_plain.specs.Frames.{Frame, rebuilt}
 use Rattle.markdown_plain.specs.ReachedLines.{Before as LineBefore}
+use Rattle.markdown_builder.specs.TreeLevels.{followed_by}
+use Rattle.markdown_lines.specs.declared.line.Line.{Line}
+use Rattle.markdown_plain.specs.declared.looseness.Looseness.{Looseness}
+use Rattle.markdown_plain.specs.Paragraphs.{source_of, lines_end}
+use Rattle.markdown_plain.specs.Settled.{IsLooseBefore}
+use Rattle.markdown_lines.specs.HeldLines.{IsHeldLine}
+use Rattle.markdown_lines.specs.declared.held_line.HeldLine.{HeldLine}
+use Rattle.markdown_lines.proofs.BlockStartsLemmas.{is_blank}
+use Rattle.markdown_lines.proofs.PositionsLemmas.{in_part, rest_of_part}
+use Rattle.markdown_plain.specs.HeldSources.{IsTextLine}
+use Rattle.markdown_plain.specs.OpenLeaves.{BeginsText, ComesAfter}
+use Rattle.markdown_plain.specs.TextLines.{IsContentAt, held_line, text_block}
+use Rattle.markdown_base.specs.declared.tag.MetadataBlockKind.TheVariants as metadata
+use Rattle.markdown_lines.specs.BlockBeginnings as beginning
+use Rattle.markdown_lines.specs.declared.block_start.BlockStart.TheVariants as start
+use Rattle.markdown_plain.proofs.BegunLemmas.{begun_once}
+
+-- ---- what a reader finds
 
 -- a reader of the same line has found the same
 found_same : (old new : LineReader) (start : BlockStart) → IsSameLine old new
@@ -217,3 +236,147 @@ pub found_begins : (s : Source) (rest : LineRest) (source : SourceLine) (at : �
     → (is_blank_rest source ≡ false) × (begins s rest.before source ≡ b)
 found_begins s rest source at start b is found =
     some_begun b (begins s rest.before source) (is_blank_rest source) (sym found ∙ is.is)
+
+-- ---- what the calls leave as it is
+
+-- beside what is built, a pass is the same
+pub record KeepsRest (old now : Pass) : Type 0 where
+  pub text : now.placing.builder.text ≡ old.placing.builder.text
+  pub syntax : now.syntax ≡ old.syntax
+  pub lines : now.lines.items ≡ old.lines.items
+  pub blanks : now.blanks.items ≡ old.blanks.items
+  pub looseness : now.looseness ≡ old.looseness
+
+pub keeps_rest : (old now : Pass) → now ≡ record old { placing = now.placing; leaf = now.leaf }
+    → now.placing.builder.text ≡ old.placing.builder.text → KeepsRest old now
+keeps_rest old now same text = record {
+  text = text;
+  syntax = ap (λ (p : Pass). p.syntax) same;
+  lines = ap (λ (p : Pass). p.lines.items) same;
+  blanks = ap (λ (p : Pass). p.blanks.items) same;
+  looseness = ap (λ (p : Pass). p.looseness) same;
+}
+
+pub keeps_leaf : (old now : Pass) → now ≡ record old { placing = now.placing }
+    → now.placing.builder.text ≡ old.placing.builder.text → KeepsRest old now
+keeps_leaf old now same text =
+    keeps_rest old now (same ∙ ap (λ leaf. record old { placing = now.placing; leaf = leaf })
+    (sym (ap (λ (p : Pass). p.leaf) same))) text
+
+-- the text and its syntax stay
+pub source_kept : (s : Source) (old now : Pass) → now.placing.builder.text ≡ old.placing.builder.text
+    → now.syntax ≡ old.syntax → source_of old ≡ s → source_of now ≡ s
+source_kept s old now text syntax source = rw (text, syntax) source
+
+-- a block may still begin once it was made
+pub still_may : (s : Source) (room now : Pass) (line : Line) (frames : List Frame) (inside : Forest Block)
+    → MayBegin s room line frames inside → KeepsRest room now → MayBegin s now line frames inside
+still_may s room now line frames inside may keeps =
+    assumption (
+      source_kept s room now keeps.text keeps.syntax may.source,
+      keeps.lines ∙ may.lines,
+      keeps.blanks ∙ may.blanks,
+      subst (λ (n : Looseness). IsLooseBefore n frames inside) (sym keeps.looseness) may.loose,
+    )
+
+-- ---- the block
+
+-- a block that begins with the rest of a line
+abbrev pub begun_block : SourceLine → Kind → Block
+begun_block l kind = record { start = content_of l; first = l.next; last = l.next; kind = kind }
+
+-- the line makes the blocks so far these ones with the block that it begins
+pub begun_in_room : {s : Source} {pass : Pass} {rest : LineRest} {source : SourceLine} {b : Beginning}
+    {blocks : Forest Block} (room : HasRoom s pass rest source b blocks)
+    → blocks ≡ rebuilt room.frames (followed_by room.inside (new_blocks (inside_of (begun_by s) source) source b))
+begun_in_room {s} {pass} {rest} {source} {b} {blocks} room =
+    room.whole
+    ∙ ap (λ made. rebuilt room.frames (followed_by room.inside made))
+    (begun_once s source ∙ ap (new_blocks (inside_of (begun_by s) source) source) room.is)
+
+-- where room was made the text is the same
+pub room_kept : {old room : Pass} {rest : LineRest} {at : ℕ} {start : BlockStart} {b : Beginning}
+    (may : MayBeginBlock old rest at start) → HasRoom may.s room rest may.source b may.blocks
+    → room.placing.builder.text ≡ old.placing.builder.text
+room_kept {old} {room} {rest} may has =
+    ap (λ (s : Source). s.text) has.may.source
+    ∙ sym (here_text may.s old rest may.turn may.source may.blocks may.here)
+
+-- ---- text
+
+-- a line that is not blank has fewer bytes of white space than bytes
+filled_first : (bytes : List ℕ) (rest : SourceLine) → rest.left.bytes ≡ bytes → is_blank_rest rest ≡ false
+    → prefix_len is_space_or_tab bytes < length bytes
+filled_first bytes rest is filled =
+    elim (eqb_tells (prefix_len is_space_or_tab bytes) (length bytes)) [
+      | inl all ↦ absurd (true≢false (sym (is_blank rest.left.bytes
+          (subst (λ (bs : List ℕ). prefix_len is_space_or_tab bs ≡ length bs) (sym is) all.1)) ∙ filled))
+      | inr some ↦ let within = prefix_len-le-length is_space_or_tab bytes in omega (arith, within, some.1)
+    ]
+
+module _ (text : List ℕ) (line : Line) (rest : SourceLine) (start : ℕ) (at : IsContentAt text line rest start) where
+  -- the first byte of content is in the line
+  pub starts_before : start < line.stop
+  starts_before =
+      omega (arith, filled_first rest.left.bytes rest refl at.filled, at.here, at.stop)
+
+  pub starts_after : line.start ≤ start
+  starts_after =
+      omega (arith, at.low, at.here)
+
+  is_text_line : IsTextLine text (held_line line start) (text_line rest)
+  is_text_line = record {
+    start = at.here;
+    bytes = ap (λ n. slice_range text n line.stop) at.here
+        ∙ (sym (rest_of_part text rest.left.scanned line.stop (prefix_len is_space_or_tab rest.left.bytes))
+        ∙ ap (drop (prefix_len is_space_or_tab rest.left.bytes)) at.bytes);
+    next = at.next;
+  }
+
+  first_is_content : is_space_or_tab (slice_index text start) ≡ false
+  first_is_content =
+      let white = prefix_len is_space_or_tab rest.left.bytes in
+      let some = filled_first rest.left.bytes rest refl at.filled in
+      let there = in_part text rest.left.bytes rest.left.scanned line.stop white (sym at.bytes) some in
+      ap (λ n. is_space_or_tab (slice_index text n)) at.here
+      ∙ (sym (ap is_space_or_tab there.byte) ∙ prefix_len_stops is_space_or_tab rest.left.bytes 0 some)
+
+  module _ (from : IsLineFrom text line.start line) where
+    pub ends_after : line.start < line.next
+    ends_after =
+        omega (arith, starts_before, starts_after, from.ends)
+
+    pub is_held_line : IsHeldLine text (held_line line start)
+    is_held_line = record {
+      boundary = at.boundary;
+      some = starts_before;
+      first = first_is_content;
+      content = record {
+        low = let first = starts_before in omega (arith, first);
+        high = from.content.high;
+        content = λ k low high. let after = starts_after in from.content.content k (omega (arith, low, after)) high;
+        stops = from.content.stops;
+      };
+      ends = from.ends;
+    }
+
+    -- it comes after the lines of a paragraph that end before the line
+    pub comes_after : (lines : List HeldLine) → lines_end lines ≤ line.start
+        → ComesAfter text lines (held_line line start) (text_line rest)
+    comes_after lines before = record {
+      is = is_text_line;
+      held = is_held_line;
+      after = let after = starts_after in omega (arith, before, after);
+    }
+
+    -- or a paragraph begins with it
+    pub begins_block : BeginsText text (held_line line start) (text_line rest) (text_block rest)
+    begins_block =
+        let some : (start == line.stop) ≡ false = grind (arith, nat_tests, starts_before) in
+        record {
+          is = is_text_line;
+          inside = rw some (omega arith, (is_held_line, tt));
+          some = let after = ends_after in omega (arith, after);
+          kind = refl;
+          last = refl;
+        }

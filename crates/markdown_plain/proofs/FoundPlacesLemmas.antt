@@ -14,7 +14,6 @@ use Rattle.markdown_base.specs.declared.tag.HeadingLevel.{HeadingLevel}
 use Rattle.markdown_base.specs.HeadingLevels.{level_of}
 use Rattle.markdown_scan.specs.LineStart.{LineLeft, leading_space}
 use Rattle.markdown_lines.specs.AtxHeadings.{atx_heading_at, heading_content, heading_from, is_hash}
-use Rattle.markdown_lines.specs.BlockBeginnings as line
 use Rattle.markdown_base.specs.Source.{Source}
 use Rattle.markdown_lines.specs.BlockBeginnings.{Beginning, begins, begins_after, break_in_line, fence_in_line}
 use Rattle.markdown_lines.specs.BlockBeginnings.{first_found, footnote_in_line, footnote_marker, heading_in_line}
@@ -32,7 +31,6 @@ use Rattle.markdown_lines.specs.SourceLines.{SourceLine, is_blank_rest}
 use Rattle.markdown_lines.specs.declared.atx_heading.AtxHeading.{AtxHeading}
 use Rattle.markdown_lines.specs.declared.block_start.Before.{Before}
 use Rattle.markdown_lines.specs.declared.block_start.BlockStart.{BlockStart}
-use Rattle.markdown_lines.specs.declared.block_start.BlockStart.TheVariants as start
 use Rattle.markdown_lines.specs.declared.braces.Braces.{Braces}
 use Rattle.markdown_lines.specs.declared.fence.OpeningFence.{OpeningFence}
 use Rattle.markdown_lines.specs.declared.line_reader.LineReader.{LineReader}
@@ -49,13 +47,13 @@ use Rattle.markdown_plain.specs.Beginning.{MayRead, Reads, StandsAsText}
 use Rattle.markdown_plain.specs.Fitting.{BracesStand}
 use Rattle.markdown_plain.specs.OpenLeaves.{InfoStands}
 use Rattle.markdown_plain.specs.TextLines.{IsContentAt}
-use Rattle.markdown_plain.proofs.FoundBlocksLemmas.{found_begins, here_found, here_left, here_text}
-use Rattle.markdown_plain.proofs.HeldTextLemmas.{is_held_line}
+use Rattle.markdown_lines.specs.BlockBeginnings as line
+use Rattle.markdown_lines.specs.declared.block_start.BlockStart.TheVariants as start
+use Rattle.markdown_plain.proofs.FoundBlocksLemmas.{found_begins, here_found, here_left, here_text, is_held_line}
 use Rattle.markdown_plain.proofs.LeafTreesLemmas.{on_test}
-use Rattle.markdown_plain.proofs.BegunLemmas.{IsLeftOf}
-use Rattle.markdown_plain.proofs.LineBeginningsLemmas.{IfFound, after_holds, begins_holds, underline_holds}
+use Rattle.markdown_plain.proofs.BegunLemmas.{IsLeftOf, IfFound, after_holds, begins_holds, underline_holds}
 use Rattle.markdown_plain.proofs.ReachedFramesLemmas.{space_alike}
-use Rattle.markdown_plain.proofs.ReadyPlacesLemmas.{stop_between}
+use Rattle.markdown_plain.proofs.ReadyLinesLemmas.{stop_between}
 use Rattle.markdown_plain.proofs.TextReachedLemmas.{IsWithin, content_at, content_within, marker_within, next_within}
 use Rattle.markdown_plain.proofs.TextReachedLemmas.{space_within}
 

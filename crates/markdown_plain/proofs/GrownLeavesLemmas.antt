@@ -18,15 +18,12 @@ use Rattle.markdown_lines.specs.declared.fence.Fence.{Fence}
 use Rattle.markdown_lines.specs.declared.html_kind.HtmlKind.{HtmlKind}
 use Rattle.markdown_lines.specs.declared.position.Position.{Position}
 use Rattle.markdown_lines.specs.Positions.{left_from}
-use Rattle.markdown_block_rules.specs.BlockGrowth as was
 use Rattle.markdown_block_rules.specs.BlockGrowth.{Block, Kind, closes, ends_html, leaf_with, with_line}
-use Rattle.markdown_block_rules.specs.BlockRules.{block_end, block_ends_blank, is_blank_block}
-use Rattle.markdown_block_rules.specs.BlockRules.{last_is_blank, lines_end as lines_end_from}
+use Rattle.markdown_block_rules.specs.BlockRules.{block_end, block_ends_blank, is_blank_block, last_is_blank}
+use Rattle.markdown_block_rules.specs.BlockRules.{lines_end as lines_end_from}
 use Rattle.markdown_plain.specs.declared.pass.LeafKind.{LeafKind}
-use Rattle.markdown_plain.specs.declared.pass.LeafKind.TheVariants as leaf
 use Rattle.markdown_plain.specs.HeldSources.{AreHeld}
 use Rattle.markdown_plain.specs.LeafGrowth.{GrowsLeaf, IsCode}
-use Rattle.markdown_plain.specs.declared.containers.Reached as code
 use Rattle.markdown_plain.specs.declared.pass.Pass.{Pass}
 use Rattle.markdown_plain.specs.Closing.{MayEnd}
 use Rattle.markdown_plain.specs.Frames.{Frame, rebuilt, touched}
@@ -36,20 +33,21 @@ use Rattle.markdown_plain.specs.ReachedLines.{Before, IsReachedBy, LeavesOff, bl
 use Rattle.markdown_plain.specs.Settled.{placed_end}
 use Rattle.markdown_plain.specs.Standing.{HasLast, HoldsBlanks, IsLeafKind, IsSource, KnowsLast, MetadataAlone}
 use Rattle.markdown_plain.specs.Standing.{PlacesFor, PlacesLast, is_metadata, with_last}
-use Rattle.markdown_plain.proofs.BegunBlocksLemmas.{source_kept}
-use Rattle.markdown_plain.proofs.BegunLeavesLemmas.{ends_here, line_places, no_paragraph}
-use Rattle.markdown_plain.proofs.BlankLinesLemmas.{blank_alike, whole_left}
 use Rattle.markdown_plain.specs.TableHeads.{IfParagraphLast, Remembers}
+use Rattle.markdown_block_rules.specs.BlockGrowth as was
+use Rattle.markdown_plain.specs.declared.pass.LeafKind.TheVariants as leaf
+use Rattle.markdown_plain.specs.declared.containers.Reached as code
+use Rattle.markdown_plain.proofs.FoundBlocksLemmas.{source_kept}
+use Rattle.markdown_plain.proofs.BegunLeavesLemmas.{ends_here, line_places, no_paragraph}
+use Rattle.markdown_plain.proofs.ReachedFramesLemmas.{blank_alike, whole_left, is_over, leaf_is_over}
+use Rattle.markdown_plain.proofs.ReachedFramesLemmas.{open_are_containers, space_alike}
 use Rattle.markdown_plain.proofs.OpenTablesLemmas.{in_leaf_open, leaf_goes_by, leaf_known, nothing_remembered}
-use Rattle.markdown_plain.proofs.BlankStandingLemmas.{all_reached, last_of, next_after}
-use Rattle.markdown_plain.proofs.ItemsInListsLemmas.{line_keeps}
-use Rattle.markdown_plain.proofs.LastBlocksLemmas.{is_over, leaf_is_over, open_are_containers}
-use Rattle.markdown_plain.proofs.LeafLinesLemmas.{end_touched, leaf_grows, loose_grown, open_leaf_touched}
+use Rattle.markdown_plain.proofs.BlankStandingLemmas.{all_reached, before_last, next_after}
+use Rattle.markdown_plain.proofs.OpenedFramesLemmas.{line_keeps, built_touched, earlier_touched, quotes_touched}
+use Rattle.markdown_plain.proofs.TextReachedLemmas.{end_touched, leaf_grows, loose_grown, open_leaf_touched}
 use Rattle.markdown_plain.proofs.LeafTreesLemmas.{few_owed}
 use Rattle.markdown_plain.proofs.LinedLeavesLemmas.{code_to_end, end_of_last, grown_to}
-use Rattle.markdown_plain.proofs.ReachedFramesLemmas.{space_alike}
-use Rattle.markdown_plain.proofs.ReadyPlacesLemmas.{next_between, ready_last}
-use Rattle.markdown_plain.proofs.TouchedFramesLemmas.{built_touched, earlier_touched, quotes_touched}
+use Rattle.markdown_plain.proofs.ReadyLinesLemmas.{next_between, ready_last}
 
 pub placed_touched : (l : SourceLine) (s : Source) (view : BuilderView) (frames : List Frame) (inside : Forest Block)
     → IsPlaced s view frames inside → IsPlaced s view (map (touched l) frames) inside
@@ -90,22 +88,22 @@ pub record GrownFrom (s : Source) (new : Pass) (rest : SourceLine) (how : LeafKi
 
 grown_places : (s : Source) (old new : Pass) (line : Line) (found : code.Reached) (frames : List Frame)
     (inside : Forest Block) (b c : Block) (source : SourceLine) (how : LeafKind) (may_be : SourceLine → Type 0)
-    → IsReachedBy s old line found (last_of frames inside b) source
-    → (reached_of s (last_of frames inside b) source).inner ≡ []
+    → IsReachedBy s old line found (before_last frames inside b) source
+    → (reached_of s (before_last frames inside b) source).inner ≡ []
     → MayEnd s old frames inside b None → old.lines.items ≡ [] → old.leaf ≡ how
     → new ≡ record old { placing = new.placing; blanks = new.blanks }
     → new.placing.builder.text ≡ old.placing.builder.text
-    → (g : GrownFrom s new (reached_of s (last_of frames inside b) source).rest how may_be b.kind)
-    → c ≡ grown_to b (reached_of s (last_of frames inside b) source).rest.next g.now
+    → (g : GrownFrom s new (reached_of s (before_last frames inside b) source).rest how may_be b.kind)
+    → c ≡ grown_to b (reached_of s (before_last frames inside b) source).rest.next g.now
     → IsLeafIn s new.placing.builder frames inside c (has_ended g.now)
-    → PlacesFor s new line.next (with_line s (blocks_before (last_of frames inside b)) source)
+    → PlacesFor s new line.next (with_line s (blocks_before (before_last frames inside b)) source)
 grown_places s old new line found frames inside b c source how may_be by none may empty how_is same text g c_is is =
     by_end (has_ended g.now) refl is
   where
     kind : c.kind ≡ g.now
     kind = rw c_is refl
 
-    whole : with_line s (blocks_before (last_of frames inside b)) source
+    whole : with_line s (blocks_before (before_last frames inside b)) source
         ≡ rebuilt (map (touched source) frames) (followed_by inside (leaf_block c))
     whole =
         let around = may.unended.1.around in
@@ -120,7 +118,7 @@ grown_places s old new line found frames inside b c source how may_be by none ma
         → PlacesLast s new (map (touched source) frames) before last
         → MetadataAlone last (map (touched source) frames) → IfParagraphLast s (Remembers s new line.next) last
         → new.placing.builder.at ≡ placed_end 0 frames (followed_by inside (leaf_block c))
-        → PlacesFor s new line.next (with_line s (blocks_before (last_of frames inside b)) source)
+        → PlacesFor s new line.next (with_line s (blocks_before (before_last frames inside b)) source)
     places before last are unended alone remembers at =
         let leaf = ap is_leaf kind ∙ g.grows.leaf in
         let filled = no_blank_line c.kind leaf in
@@ -132,14 +130,14 @@ grown_places s old new line found frames inside b c source how may_be by none ma
         (rw (ap (λ (p : Pass). p.looseness) same) (loose_grown source old.looseness frames inside b c
         (no_blank_line b.kind may.unended.0 ∙ sym filled) by.stands.loose))
         g.held (no_paragraph new.lines.items line.next lines) whole
-        (line_keeps s (blocks_before (last_of frames inside b)) source may.items)
+        (line_keeps s (blocks_before (before_last frames inside b)) source may.items)
         (ready_last s new (map (touched source) frames) before last line.next unended lines g.held
         (ends_here s new.placing.builder frames inside c line.next leaf
         (rw kind (g.grows.end c (rw c_is refl)) ∙ sym by.reaches.rest.next) at)
         (rw text (next_between old.placing.builder.text line.start line by.is.utf8 by.is.from)))
 
     by_end : (ended : Bool) → has_ended g.now ≡ ended → IsLeafIn s new.placing.builder frames inside c ended
-        → PlacesFor s new line.next (with_line s (blocks_before (last_of frames inside b)) source)
+        → PlacesFor s new line.next (with_line s (blocks_before (before_last frames inside b)) source)
     by_end true ends is =
         places (followed_by inside (leaf_block c)) None refl (
           placed_touched source s new.placing.builder frames (followed_by inside (leaf_block c)) is,
@@ -171,19 +169,19 @@ grown_places s old new line found frames inside b c source how may_be by none ma
 leaf_case : (P : Before → Type 0) (s : Source) (pass : Pass) (before : Before) (how : LeafKind)
     → HasLast s pass before.frames before.inside before.last → pass.leaf ≡ how → pass.placing.builder.leaf ≡ true
     → ((b : Block) → MayEnd s pass before.frames before.inside b None → IsLeafKind how b.kind
-    → HoldsBlanks pass.blanks.items b.kind → pass.lines.items ≡ [] → P (last_of before.frames before.inside b))
+    → HoldsBlanks pass.blanks.items b.kind → pass.lines.items ≡ [] → P (before_last before.frames before.inside b))
     → P before
 leaf_case P s pass before how has how_is leaf some = by_last before.last has some
   where
     by_last : (last : Option Block) → HasLast s pass before.frames before.inside last
         → ((b : Block) → MayEnd s pass before.frames before.inside b None → IsLeafKind how b.kind
-        → HoldsBlanks pass.blanks.items b.kind → pass.lines.items ≡ [] → P (last_of before.frames before.inside b))
+        → HoldsBlanks pass.blanks.items b.kind → pass.lines.items ≡ [] → P (before_last before.frames before.inside b))
         → P (record { frames = before.frames; inside = before.inside; last = last })
     by_last None has some = absurd (true≢false (sym leaf ∙ has.0.stands.built.outside))
     by_last (Some b) has some = by_held has.0 has.1 has.2
       where
         by_held : (held : Option (List SourceLine)) → MayEnd s pass before.frames before.inside b held
-            → KnowsLast pass b held → P (last_of before.frames before.inside b)
+            → KnowsLast pass b held → P (before_last before.frames before.inside b)
         by_held None may knows =
             some b may (subst (λ h. IsLeafKind h b.kind) how_is
             (leaf_known pass.leaf b.kind (sym may.unended.1.leaf ∙ leaf) knows.0)) knows.1 knows.2
@@ -209,10 +207,10 @@ PlacesLine s old new line found source before =
 abbrev pub GrowsBy : Source → Pass → Pass → Line → code.Reached → Before → SourceLine → LeafKind
     → (SourceLine → Type 0) → Type 0
 GrowsBy s old new line found before source how may_be =
-    (b : Block) → IsReachedBy s old line found (last_of before.frames before.inside b) source
-    → (reached_of s (last_of before.frames before.inside b) source).inner ≡ []
+    (b : Block) → IsReachedBy s old line found (before_last before.frames before.inside b) source
+    → (reached_of s (before_last before.frames before.inside b) source).inner ≡ []
     → IsLeafKind how b.kind → HoldsBlanks old.blanks.items b.kind
-    → GrownFrom s new (reached_of s (last_of before.frames before.inside b) source).rest how may_be b.kind
+    → GrownFrom s new (reached_of s (before_last before.frames before.inside b) source).rest how may_be b.kind
 
 pub leaf_places : (s : Source) (old new : Pass) (line : Line) (found : code.Reached) (before : Before)
     (source : SourceLine) (how : LeafKind) (may_be : SourceLine → Type 0) → old.leaf ≡ how
@@ -349,27 +347,27 @@ rest_cut text position after line l read is =
 
 pub code_grown : (s : Source) (old new : Pass) (line : Line) (found : code.Reached) (frames : List Frame)
     (inside : Forest Block) (b : Block) (source : SourceLine) (after : Position)
-    → IsReachedBy s old line found (last_of frames inside b) source → new.blanks.items ≡ []
+    → IsReachedBy s old line found (before_last frames inside b) source → new.blanks.items ≡ []
     → left_from old.placing.builder.text after line.stop
     ≡ (leading_space 4 (left_from old.placing.builder.text found.position line.stop)).after
     → nat_le line.stop found.content ≡ false
     → ((leading_space 4 (left_from old.placing.builder.text found.position line.stop)).columns == 4) ≡ true
-    → IsLeafKind leaf.Indented b.kind → GrownFrom s new (reached_of s (last_of frames inside b) source).rest
+    → IsLeafKind leaf.Indented b.kind → GrownFrom s new (reached_of s (before_last frames inside b) source).rest
     leaf.Indented (IsCode old.placing.builder.text after line) b.kind
 code_grown s old new line found frames inside b source after by emptied read some four =
     let filled = sym by.reaches.blank ∙ some in
-    indented_grown s new (reached_of s (last_of frames inside b) source).rest _ b.kind (record {
+    indented_grown s new (reached_of s (before_last frames inside b) source).rest _ b.kind (record {
       rest = rest_cut old.placing.builder.text found.position after line _ read
-          (line_rest s old line found (last_of frames inside b) source by);
+          (line_rest s old line found (before_last frames inside b) source by);
       filled = filled;
     }) emptied filled (sym (ap (λ left. (leading_space 4 left).columns == 4) by.reaches.rest.left) ∙ four)
 
 -- metadata is open in no container, so that all of the line is left
 pub metadata_line : (s : Source) (old : Pass) (line : Line) (found : code.Reached) (frames : List Frame)
     (inside : Forest Block) (b : Block) (source : SourceLine) (kind : MetadataBlockKind)
-    → IsReachedBy s old line found (last_of frames inside b) source
-    → (reached_of s (last_of frames inside b) source).inner ≡ [] → IsLeafKind (leaf.Metadata kind) b.kind
-    → IsSource old line (reached_of s (last_of frames inside b) source).rest
+    → IsReachedBy s old line found (before_last frames inside b) source
+    → (reached_of s (before_last frames inside b) source).inner ≡ [] → IsLeafKind (leaf.Metadata kind) b.kind
+    → IsSource old line (reached_of s (before_last frames inside b) source).rest
 metadata_line s old line found frames inside b source kind by none how =
     let open_blocks = followed_by inside (leaf_block b) in
     rw (whole_left s frames open_blocks source (all_reached s frames open_blocks source none
@@ -398,7 +396,7 @@ pub html_leaves_off : (s : Source) (old : Pass) (line : Line) (found : code.Reac
 html_leaves_off s old line found before source kind how open_leaf ends by =
     leaf_case (LeavesLine s old line found source) s old before (leaf.Html kind) by.stands.unended how open_leaf
     (λ b may known held empty by leaf other.
-    html_off s (reached_of s (last_of before.frames before.inside b) source).rest kind b.kind known
+    html_off s (reached_of s (before_last before.frames before.inside b) source).rest kind b.kind known
     (rw by.reaches.blank at ends))
 
 indented_off : (s : Source) (rest : SourceLine) (kind : Kind) → IsLeafKind leaf.Indented kind
@@ -418,5 +416,5 @@ pub indented_leaves_off : (s : Source) (old : Pass) (line : Line) (found : code.
 indented_leaves_off s old line found before source how open_leaf few by =
     leaf_case (LeavesLine s old line found source) s old before leaf.Indented by.stands.unended how open_leaf
     (λ b may known held empty by leaf other.
-    indented_off s (reached_of s (last_of before.frames before.inside b) source).rest b.kind known other (λ filled.
+    indented_off s (reached_of s (before_last before.frames before.inside b) source).rest b.kind known other (λ filled.
     sym (ap (λ left. (leading_space 4 left).columns == 4) by.reaches.rest.left) ∙ few (by.reaches.blank ∙ filled)))

@@ -1,9 +1,15 @@
--- Items in an open leaf, lines of code among them, and whole leaves.
-use Rattle.std.proofs.Common.{◌≡◌, ℕ, zero, suc, ◌+◌, ◌-◌, ◌<◌, ◌≤◌, Bool, true, false, List, [], ◌∷◌, ◌++◌, length}
-use Rattle.std.proofs.Common.{refl, sym, ap, ◌∙◌, subst, arith, append_assoc, append-nil}
-use Rattle.std.specs.Prelude.{Option, Some, None, cond, nat_le, nat_lt, ◌==◌, ◌||◌, if◌then◌else◌, replicate, slice_get}
+-- The open blocks, as one is opened, closed or replaced; items in an open leaf, lines of code among them, and whole
+-- leaves.
+use Rattle.std.proofs.Common.{◌≡◌, ℕ, zero, suc, ◌-◌, ◌<◌, Bool, true, false, ◌||◌, List, [], ◌∷◌, ◌++◌, Some, length}
+use Rattle.std.proofs.Common.{take, refl, ap, ◌∙◌, arith, ◌+◌, ◌≤◌, sym, subst, append_assoc, append-nil}
+use Rattle.std.specs.Prelude.{if◌then◌else◌, Option, None, cond, nat_le, nat_lt, ◌==◌, replicate, slice_get}
 use Rattle.std.proofs.lemmas.Bool.Decides.{nat_tests}
 use Rattle.std.proofs.lemmas.Option.{same_Some}
+use native.Mathlib.Numerals.{unary_clauses}
+use Rattle.markdown_builder.specs.declared.open_block.OpenBlock.{OpenBlock}
+use Rattle.markdown_builder.specs.BuilderView.{BuilderView, innermost_block, AppendsItem, AppendsText, parts_of}
+use Rattle.markdown_builder.specs.BuilderView.{with_items}
+use Rattle.markdown_plain.specs.OpenBlocks.{has_leaf, innermost_is, is_table, outer_of, without_leaf}
 use Rattle.markdown_base.specs.Bytes.{space, tab}
 use Rattle.markdown_base.specs.Event.{HeadingView}
 use Rattle.markdown_base.specs.Forest.{Forest, nil, node}
@@ -11,12 +17,8 @@ use Rattle.markdown_base.specs.HeadingWords.{HeadingWords, words_of, worded_head
 use Rattle.markdown_base.specs.declared.block_parts.HeadingAttributes.{HeadingAttributes}
 use Rattle.markdown_base.specs.declared.index.HeadingIndex.{HeadingIndex}
 use Rattle.markdown_base.specs.declared.item.ItemBody.{ItemBody}
-use Rattle.markdown_base.specs.declared.item.ItemBody.TheVariants as body
 use Rattle.markdown_base.specs.declared.tag.Alignment.{Alignment}
 use Rattle.markdown_base.specs.declared.tag.HeadingLevel.{HeadingLevel}
-use Rattle.markdown_builder.specs.declared.open_block.OpenBlock.{OpenBlock}
-use Rattle.markdown_builder.specs.BuilderView.{BuilderView, AppendsItem, AppendsText, innermost_block, parts_of}
-use Rattle.markdown_builder.specs.BuilderView.{with_items}
 use Rattle.markdown_builder.specs.Shown.{Shown, chain_of, plain_item, settled_below, shown_item, synthesized_item}
 use Rattle.markdown_builder.specs.Shown.{tight_shown, with_block}
 use Rattle.markdown_builder.specs.Tightness.{is_tight_list}
@@ -37,10 +39,82 @@ use Rattle.markdown_plain.specs.declared.placing.Placing.{Placing}
 use Rattle.markdown_plain.specs.Fits.{after_lines}
 use Rattle.markdown_plain.specs.Fitting.{GoesOn, OpensHeadingOf, PutsBlock, stepped}
 use Rattle.markdown_plain.specs.LeafTrees.{AddsLines, HasItems, HasMoreTexts, HasTrees}
-use Rattle.markdown_plain.specs.OpenBlocks.{outer_of}
-use Rattle.markdown_plain.proofs.OpenBlocksLemmas.{innermost_of_opened}
 use Rattle.markdown_plain.specs.CodeLines.{after_line, owed_spaces, rest_from}
 use Rattle.markdown_plain.specs.HeldSources.{AreHeld, IsHeld, IsRest}
+use Rattle.markdown_base.specs.declared.item.ItemBody.TheVariants as body
+
+-- ---- the open blocks
+
+-- the blocks before the last one are those outside it
+pub outer_of_opened : (outer : List OpenBlock) (block : OpenBlock) → outer_of (outer ++ block ∷ []) ≡ outer
+unfolding outer_of
+outer_of_opened [] block = refl
+outer_of_opened (first ∷ []) block = refl
+outer_of_opened (first ∷ second ∷ outer) block = ap (λ blocks. first ∷ blocks) (outer_of_opened (second ∷ outer) block)
+
+-- the same, by an equation
+pub outer_of_these : (blocks outer : List OpenBlock) (block : OpenBlock) → blocks ≡ outer ++ block ∷ []
+    → outer_of blocks ≡ outer
+outer_of_these blocks outer block e = rw e (outer_of_opened outer block)
+
+-- no leaf block is open, so that the open blocks are those without one
+pub outside_leaf : (view : BuilderView) → has_leaf view ≡ false → without_leaf view ≡ view.blocks
+outside_leaf view outside = ap (λ leaf. if leaf then outer_of view.blocks else view.blocks) outside
+
+pub no_leaf_there : (view : BuilderView) → has_leaf view ≡ false → view.leaf ≡ false
+no_leaf_there view outside = first view.leaf (innermost_is is_table view.blocks) outside
+  where
+    first : (one other : Bool) → (one || other) ≡ false → one ≡ false
+    first true other none = none
+    first false other none = refl
+
+-- those around an open leaf block
+pub around_leaf : (view : BuilderView) (outer : List OpenBlock) (block : OpenBlock) → has_leaf view ≡ true
+    → view.blocks ≡ outer ++ block ∷ [] → without_leaf view ≡ outer
+around_leaf view outer block leaf is =
+    ap (λ leaf. if leaf then outer_of view.blocks else view.blocks) leaf ∙ outer_of_these view.blocks outer block is
+
+-- the last block is the innermost
+pub innermost_of_opened : (outer : List OpenBlock) (block : OpenBlock)
+    → innermost_block (outer ++ block ∷ []) ≡ Some block
+innermost_of_opened [] block = refl
+innermost_of_opened (first ∷ []) block = refl
+innermost_of_opened (first ∷ second ∷ outer) block =
+    simp unary_clauses (simp unary_clauses at (innermost_of_opened (second ∷ outer) block))
+
+-- there is one block less outside the innermost
+pub length_of_outer : (blocks : List OpenBlock) → length (outer_of blocks) ≡ length blocks - 1
+unfolding outer_of
+length_of_outer [] = simp unary_clauses
+length_of_outer (block ∷ []) = simp unary_clauses
+length_of_outer (block ∷ inner ∷ blocks) = let h = length_of_outer (inner ∷ blocks) in omega (arith, h)
+
+-- the outermost blocks are the same without the innermost
+pub take_of_outer : (depth : ℕ) (blocks : List OpenBlock) → depth < length blocks
+    → take depth (outer_of blocks) ≡ take depth blocks
+unfolding outer_of
+take_of_outer zero blocks more = refl
+take_of_outer (suc depth) [] more = absurd (omega (arith, more))
+take_of_outer (suc depth) (block ∷ []) more = absurd (omega (arith, more))
+take_of_outer (suc depth) (block ∷ inner ∷ blocks) more =
+    ap (λ (b : List OpenBlock). block ∷ b) (take_of_outer depth (inner ∷ blocks) (omega (arith, more)))
+
+-- some blocks, the last apart
+pub record Parted (blocks : List OpenBlock) : Type 0 where
+  pub block : OpenBlock
+  pub is : blocks ≡ outer_of blocks ++ block ∷ []
+
+parted : (first : OpenBlock) (blocks : List OpenBlock) → Parted (first ∷ blocks)
+unfolding outer_of
+parted first [] = record { block = first; is = refl }
+parted first (second ∷ blocks) =
+    let p = parted second blocks in
+    record { block = p.block; is = ap (λ (b : List OpenBlock). first ∷ b) p.is }
+
+-- a list of blocks that is not empty has a last one
+pub last_apart : (blocks : List OpenBlock) → (blocks ≡ [] → ⊥) → Parted blocks
+last_apart [] some = absurd (some refl)
+last_apart (first ∷ blocks) some = parted first blocks
 
 -- ---- levels
 

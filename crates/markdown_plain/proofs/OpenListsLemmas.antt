@@ -1,27 +1,247 @@
--- What the pass remembers of lists, as a block is added, and as containers are opened and closed.
-use Rattle.std.proofs.Common.{◌≡◌, ℕ, ◌+◌, List, [], ◌∷◌, ◌++◌, Bool, true, false, ◌&&◌, ◌||◌, not, refl, sym, ap, ◌∙◌}
-use Rattle.std.proofs.Common.{Option, Some, None, length, subst, arith, append-nil}
-use Rattle.std.proofs.Math.Bool.{or-false, or-true}
+-- What the pass remembers of lists: which open ones are loose, and which open containers end with a blank line, as a
+-- block is added, as containers are opened and closed, and after a line.
+use Rattle.std.proofs.Common.{◌≡◌, ℕ, zero, suc, List, [], ◌∷◌, ◌++◌, Bool, true, false, length, set, refl, ap, arith}
+use Rattle.std.proofs.Common.{◌&&◌, not, sym, ◌∙◌, ◌+◌, Option, Some, None, subst, append-nil, ◌≤◌, map, nat_lt}
+use Rattle.std.specs.Prelude.{◌||◌, if◌then◌else◌}
+use Rattle.std.proofs.lemmas.List.{length-append}
+use Rattle.std.proofs.Math.Bool.{and-false, and-true, or-false, or-true, or_assoc}
 use Rattle.std.proofs.lemmas.Bool.{true≢false}
+use Rattle.std.proofs.lemmas.Bool.Decides.{nat_tests}
 use Rattle.markdown_base.specs.Forest.{Forest, nil, node}
-use Rattle.markdown_builder.specs.declared.open_block.OpenBlock.{OpenBlock}
 use Rattle.markdown_builder.specs.TreeLevels.{followed_by}
-use Rattle.markdown_block_rules.specs.BlockGrowth as was
 use Rattle.markdown_block_rules.specs.BlockGrowth.{Block, Kind, is_nil}
-use Rattle.markdown_block_rules.specs.BlockRules.{are_separated, block_ends_blank, ends_blank, is_blank_block, is_loose}
-use Rattle.markdown_plain.specs.Frames.{AreNested, Frame, forgotten, innermost_is, is_item, is_list, is_quote}
-use Rattle.markdown_plain.specs.ListLooseness as body
-use Rattle.markdown_plain.specs.ListLooseness.{is_after_blank}
-use Rattle.markdown_plain.specs.OpenBlocks as block
-use Rattle.markdown_plain.specs.Settled.{AreOpen, BlanksKnown, EmptyKnown, EmptyKnownIn, IsLooseAs, IsLooseBefore}
-use Rattle.markdown_plain.specs.Settled.{IsOneBlock, are_loose, is_blank_in}
+use Rattle.markdown_block_rules.specs.BlockRules.{are_separated, block_ends_blank, ends_blank, hold_separated}
+use Rattle.markdown_block_rules.specs.BlockRules.{holds_block, is_blank_block, is_loose}
+use Rattle.markdown_plain.specs.Frames.{AreNested, Frame, forgotten, innermost_is, is_item, is_list, rebuilt, is_quote}
+use Rattle.markdown_plain.specs.Frames.{touched}
+use Rattle.markdown_plain.specs.Settled.{IsOneBlock, are_loose, AreOpen, BlanksKnown, EmptyKnown, EmptyKnownIn}
+use Rattle.markdown_plain.specs.Settled.{IsLooseAs, IsLooseBefore, is_blank_in, IsBodyOf}
+use Rattle.markdown_builder.specs.declared.open_block.OpenBlock.{OpenBlock}
+use Rattle.markdown_plain.specs.ListLooseness.{is_after_blank, blank_from}
 use Rattle.markdown_plain.specs.declared.looseness.Looseness.{Looseness}
+use Rattle.markdown_base.specs.declared.item.ItemBody.{ItemBody}
+use Rattle.markdown_lines.specs.SourceLines.{SourceLine}
+use Rattle.markdown_plain.specs.ReachedFrames.{quote_depth}
+use Rattle.markdown_block_rules.specs.BlockGrowth as was
+use Rattle.markdown_plain.specs.ListLooseness as body
+use Rattle.markdown_plain.specs.OpenBlocks as block
+use Rattle.markdown_plain.proofs.FramesLemmas.{item_no_list, list_no_item, innermost_inner, rebuilt_in}
+use Rattle.markdown_plain.proofs.FramesLemmas.{inner_item_no_quote, inner_list_no_quote, item_of_open}
 use Rattle.markdown_plain.proofs.ClosedFramesLemmas.{as_many_open}
-use Rattle.markdown_plain.proofs.FramesInsideLemmas.{inner_item_no_quote, inner_list_no_quote, item_no_list}
-use Rattle.markdown_plain.proofs.FramesInsideLemmas.{item_of_open}
-use Rattle.markdown_plain.proofs.FramesLemmas.{innermost_inner}
-use Rattle.markdown_plain.proofs.LooseFramesLemmas.{by_item, by_list, by_other, loose_last, loose_more, loose_with_item}
-use Rattle.markdown_plain.proofs.LooseFramesLemmas.{one_separated, same_last}
+
+-- ---- flags of lists that are loose
+
+-- the last of some flags is written
+pub last_set : (outer : List Bool) (before now : Bool) (i : ℕ) → suc i ≡ length (outer ++ before ∷ [])
+    → set (outer ++ before ∷ []) i now ≡ outer ++ now ∷ []
+last_set [] before now zero n = refl
+last_set [] before now (suc i) n = absurd (omega (arith, n))
+last_set (first ∷ outer) before now zero n = let l = length-append outer (before ∷ []) in absurd (omega (arith, n, l))
+last_set (first ∷ outer) before now (suc i) n =
+    ap (λ (flags : List Bool). first ∷ flags) (last_set outer before now i (omega (arith, n)))
+
+or_false : (b : Bool) → (b || false) ≡ b
+or_false true = refl
+or_false false = refl
+
+pub one_of_three : (a b d : Bool) → ((a || d) || (b || false)) ≡ ((a || b) || d)
+one_of_three true b d = refl
+one_of_three false true true = refl
+one_of_three false true false = refl
+one_of_three false false d = or_false d
+
+-- ---- blocks after others
+
+holds_more : (f g : Forest Block) → holds_block (followed_by f g) ≡ (holds_block f || holds_block g)
+holds_more nil g = refl
+holds_more (node b below after) g = rw (holds_more after g, or_assoc) refl
+
+-- blocks end as the last of them does
+pub ends_more : (before : Bool) (f g : Forest Block)
+    → ends_blank before (followed_by f g) ≡ ends_blank (ends_blank before f) g
+ends_more before nil g = refl
+ends_more before (node b below after) g = ends_more (block_ends_blank (ends_blank false below) b.kind) after g
+
+blank_after : (before : Bool) (f : Forest Block) → before ≡ true → holds_block f ≡ false → ends_blank before f ≡ true
+blank_after before nil one none = one
+blank_after before (node b below after) one none = blank_there b.kind (λ rest. blank_after true after refl rest) none
+  where
+    blank_there : (kind : Kind) → (holds_block after ≡ false → ends_blank true after ≡ true)
+        → (not (is_blank_block kind) || holds_block after) ≡ false
+        → ends_blank (block_ends_blank (ends_blank false below) kind) after ≡ true
+    blank_there was.blank_line deeper rest = deeper rest
+    blank_there other deeper rest = absurd (true≢false rest)
+
+separates : (e other here c last there d : Bool) → (other ≡ false → here ≡ false → e ≡ true → last ≡ true)
+    → ((e && (other || (here || there))) || ((c || (last && there)) || d))
+    ≡ ((((e && (other || here)) || c) || (last && there)) || d)
+separates false other here c last there d blank = refl
+separates true true here c last there d blank = refl
+separates true false true c last there d blank = refl
+separates true false false c last false d blank = refl
+separates true false false true last true d blank = refl
+separates true false false false last true d blank = sym (ap (λ (b : Bool). (b && true) || d) (blank refl refl refl))
+
+-- blocks of which the one before them ends blank or not, and others after them
+separated_with : (e : Bool) (f g : Forest Block)
+    → ((e && holds_block (followed_by f g)) || are_separated (followed_by f g))
+    ≡ ((((e && holds_block f) || are_separated f) || (ends_blank e f && holds_block g)) || are_separated g)
+separated_with true nil g = refl
+separated_with false nil g = refl
+separated_with e (node b below after) g =
+    let ends = block_ends_blank (ends_blank false below) b.kind in
+    rw (separated_with ends after g, holds_more after g)
+    (separates e (not (is_blank_block b.kind)) (holds_block after) ((ends && holds_block after) || are_separated after)
+    (ends_blank ends after) (holds_block g) (are_separated g) (λ other here blank. ends_so b.kind other here))
+  where
+    ends_so : (kind : Kind) → not (is_blank_block kind) ≡ false → holds_block after ≡ false
+        → ends_blank (block_ends_blank (ends_blank false below) kind) after ≡ true
+    ends_so was.blank_line other here = blank_after true after refl here
+    ends_so kind other here = absurd (true≢false other)
+
+-- blocks are separated where some on one side are, or where a blank line is between the two sides
+separated_more : (f g : Forest Block) → are_separated (followed_by f g)
+    ≡ ((are_separated f || (ends_blank false f && holds_block g)) || are_separated g)
+separated_more f g = separated_with false f g
+
+hold_more : (f g : Forest Block) → hold_separated (followed_by f g) ≡ (hold_separated f || hold_separated g)
+hold_more nil g = refl
+hold_more (node b below after) g = rw (hold_more after g, or_assoc) refl
+
+-- one more block is separated from others by a blank line at their end
+pub one_separated : (f new : Forest Block) → IsOneBlock new
+    → are_separated (followed_by f new) ≡ (are_separated f || ends_blank false f)
+one_separated f nil one = absurd one
+one_separated f (node b below after) one =
+    rw (separated_more f (node b below after), one.1, one.0, and-true, and-false) (or-false _)
+
+-- ---- the blocks in an open list
+
+-- what is in a container does not separate it from others
+pub closed_separated : (f : Frame) (inside : Forest Block) → are_separated (forgotten f inside)
+    ≡ (are_separated f.before || (ends_blank false f.before && not (is_blank_block f.block.kind)))
+closed_separated f inside =
+    rw (
+      separated_more f.before (node f.block inside nil),
+      or-false (not (is_blank_block f.block.kind)),
+      and-false (block_ends_blank (ends_blank false inside) f.block.kind),
+    ) (or-false (are_separated f.before || (ends_blank false f.before && not (is_blank_block f.block.kind))))
+
+-- a list is loose by what is in its last item
+pub loose_by_last : (f : Frame) (inside : Forest Block) → is_loose (forgotten f inside)
+    ≡ ((are_separated (forgotten f nil) || hold_separated f.before) || are_separated inside)
+loose_by_last f inside =
+    rw (
+      closed_separated f inside,
+      closed_separated f nil,
+      hold_more f.before (node f.block inside nil),
+      or-false (are_separated inside),
+    ) (sym (or_assoc (are_separated f.before || (ends_blank false f.before && not (is_blank_block f.block.kind)))
+    (hold_separated f.before) (are_separated inside)))
+
+-- a list is loose whose last item has separated blocks
+pub loose_last : (f : Frame) (inside : Forest Block) → are_separated inside ≡ true
+    → is_loose (forgotten f inside) ≡ true
+loose_last f inside apart = rw (loose_by_last f inside, apart) (or-true _)
+
+pub same_last : (f : Frame) (inside now : Forest Block) → are_separated inside ≡ are_separated now
+    → is_loose (forgotten f inside) ≡ is_loose (forgotten f now)
+same_last f inside now same = rw (loose_by_last f inside, loose_by_last f now, same) refl
+
+-- blocks in a container are not directly in the item around it
+same_deeper : (f g : Frame) (inside now : Forest Block)
+    → is_loose (forgotten f (forgotten g inside)) ≡ is_loose (forgotten f (forgotten g now))
+same_deeper f g inside now = same_last f _ _ (rw (closed_separated g inside, closed_separated g now) refl)
+
+-- a list with one more item, which is empty so far, is loose where it was, or where it ended with a blank line
+pub loose_with_item : (inside : Forest Block) (item : Block) → is_blank_block item.kind ≡ false
+    → is_loose (followed_by inside (node item nil nil)) ≡ (is_loose inside || ends_blank false inside)
+loose_with_item inside item block =
+    rw (one_separated inside (node item nil nil) (block, refl), hold_more inside (node item nil nil))
+    (one_of_three (are_separated inside) (hold_separated inside) (ends_blank false inside))
+
+-- ---- the open lists
+
+-- a list within others
+abbrev listed : Bool → Bool → List Bool → List Bool
+listed list loose others = if list then loose ∷ others else others
+
+listed_more : (list loose : Bool) (others more : List Bool)
+    → listed list loose (others ++ more) ≡ listed list loose others ++ more
+listed_more true loose others more = refl
+listed_more false loose others more = refl
+
+pub loose_more : (frames more : List Frame) (inside : Forest Block)
+    → are_loose (frames ++ more) inside ≡ are_loose frames (rebuilt more inside) ++ are_loose more inside
+loose_more [] more inside = refl
+loose_more (f ∷ frames) more inside =
+    rw (rebuilt_in frames more inside, loose_more frames more inside) (listed_more (is_list f.block.kind) _ _ _)
+
+-- the innermost list, whose flag depends on the blocks in the innermost container as those of the others do not
+pub record ByInnermost (frames : List Frame) (loose : Forest Block → Bool) : Type 0 where
+  pub outer : List Bool
+  pub is : (inside : Forest Block) → are_loose frames inside ≡ outer ++ loose inside ∷ []
+
+around : (f g : Frame) (frames : List Frame) (loose : Forest Block → Bool)
+    → (is_list f.block.kind ≡ true → (inside : Forest Block)
+    → is_loose (rebuilt (g ∷ frames) inside) ≡ is_loose (rebuilt (g ∷ frames) nil))
+    → ByInnermost (g ∷ frames) loose → ByInnermost (f ∷ g ∷ frames) loose
+around f g frames loose steady by = by_kind (is_list f.block.kind) refl
+  where
+    by_kind : (list : Bool) → is_list f.block.kind ≡ list → ByInnermost (f ∷ g ∷ frames) loose
+    by_kind true is = record {
+      outer = is_loose (rebuilt (g ∷ frames) nil) ∷ by.outer;
+      is = λ inside. rw (is, steady is inside, by.is inside) refl;
+    }
+    by_kind false is = record { outer = by.outer; is = λ inside. rw is (by.is inside) }
+
+-- the innermost container is a list
+pub by_list : (frames : List Frame) → AreNested frames → innermost_is is_list frames ≡ true
+    → ByInnermost frames is_loose
+by_list [] nested list = absurd (true≢false (sym list))
+by_list (f ∷ []) nested list = record { outer = []; is = λ inside. rw list refl }
+by_list (f ∷ g ∷ []) nested list =
+    let inner = sym (innermost_inner is_list f g []) ∙ list in
+    around f g [] is_loose (λ other. absurd (true≢false (sym other ∙ (nested.0 ∙ list_no_item g.block.kind inner))))
+    (by_list (g ∷ []) nested.1 inner)
+by_list (f ∷ g ∷ h ∷ frames) nested list =
+    around f g (h ∷ frames) is_loose (λ other inside. same_deeper g h (rebuilt frames inside) (rebuilt frames nil))
+    (by_list (g ∷ h ∷ frames) nested.1 (rw innermost_inner at list))
+
+-- the innermost container is an item, in a list
+pub record ByItem (frames : List Frame) : Type 0 where
+  pub item : Frame
+  pub by : ByInnermost frames (λ inside. is_loose (forgotten item inside))
+
+pub by_item : (f g : Frame) (frames : List Frame) → AreNested (f ∷ g ∷ frames)
+    → innermost_is is_item (f ∷ g ∷ frames) ≡ true → ByItem (f ∷ g ∷ frames)
+by_item f g [] nested item =
+    let inner = sym (innermost_inner is_item f g []) ∙ item in
+    record {
+      item = g;
+      by = record { outer = []; is = λ inside. rw (nested.0, inner, item_no_list g.block.kind inner) refl };
+    }
+by_item f g (h ∷ frames) nested item =
+    let inner = by_item g h frames nested.1 (rw innermost_inner at item) in
+    record {
+      item = inner.item;
+      by = around f g (h ∷ frames) (λ inside. is_loose (forgotten inner.item inside))
+          (λ other inside. same_deeper g h (rebuilt frames inside) (rebuilt frames nil)) inner.by;
+    }
+
+-- the innermost container is neither
+pub by_other : (frames : List Frame) → AreNested frames → innermost_is is_list frames ≡ false
+    → innermost_is is_item frames ≡ false → (inside now : Forest Block) → are_loose frames inside ≡ are_loose frames now
+by_other [] nested list item inside now = refl
+by_other (f ∷ []) nested list item inside now = rw list refl
+by_other (f ∷ g ∷ []) nested list item inside now =
+    let inner = sym (innermost_inner is_item f g []) ∙ item in
+    rw (nested.0, inner) (by_other (g ∷ []) nested.1 (sym (innermost_inner is_list f g []) ∙ list) inner inside now)
+by_other (f ∷ g ∷ h ∷ frames) nested list item inside now =
+    rw (
+      same_deeper g h (rebuilt frames inside) (rebuilt frames now),
+      by_other (g ∷ h ∷ frames) nested.1 (rw innermost_inner at list) (rw innermost_inner at item) inside now,
+    ) refl
 
 -- ---- what is known of the innermost container
 
@@ -309,3 +529,195 @@ some_flag now frames f inside list loose none =
     none_at_end : (flags : List Bool) (last : Bool) → [] ≡ flags ++ last ∷ [] → ⊥
     none_at_end [] last e = cc (e)
     none_at_end (flag ∷ flags) last e = cc (e)
+
+-- ---- block quotes among open containers
+
+-- one of some open containers is a block quote
+abbrev pub has_quote : List Frame → Bool
+has_quote [] = false
+has_quote (f ∷ frames) = is_quote f.block.kind || has_quote frames
+
+counted : (test : Bool) (n : ℕ) → nat_lt 0 (if test then n + 1 else 0) ≡ test
+counted true n = grind (arith, nat_tests)
+counted false n = refl
+
+some_quote : (frames : List Frame) → nat_lt 0 (quote_depth frames) ≡ has_quote frames
+some_quote [] = refl
+some_quote (f ∷ frames) = rw (counted, some_quote frames) refl
+
+quote_there : (f : Frame) (frames : List Frame) → has_quote (f ∷ frames) ≡ true
+    → quote_depth (f ∷ frames) ≡ quote_depth frames + 1
+quote_there f frames some = rw (some_quote frames, some) refl
+
+no_quote : (frames : List Frame) → has_quote frames ≡ false → quote_depth frames ≡ 0
+no_quote [] none = refl
+no_quote (f ∷ frames) none = rw (some_quote frames, none) refl
+
+-- ---- how open containers end
+
+ends_last : (f : Frame) (inside : Forest Block)
+    → ends_blank false (forgotten f inside) ≡ block_ends_blank (ends_blank false inside) f.block.kind
+ends_last f inside = ends_more false f.before (node f.block inside nil)
+
+in_container : (texts : List (List ℕ)) (kind : Kind) (b : ItemBody) → IsBodyOf texts kind b → (inside : Bool)
+    → block_ends_blank inside kind ≡ (not (is_quote kind) && inside)
+in_container texts was.quote_container b is inside = refl
+in_container texts (was.alert_container kind) b is inside = refl
+in_container texts (was.list_container marker) b is inside = refl
+in_container texts (was.item_container indent) b is inside = refl
+in_container texts (was.footnote_container label) b is inside = refl
+in_container texts other b is inside = absurd is
+
+none_of_two : (a b c : Bool) → (not a && (not b && c)) ≡ (not (a || b) && c)
+none_of_two true b c = refl
+none_of_two false b c = refl
+
+-- a blank line at the end of the innermost container ends those around it, up to a block quote
+ends_open : (texts : List (List ℕ)) (blocks : List OpenBlock) (frames : List Frame) (inside : Forest Block)
+    → AreOpen texts blocks frames
+    → ends_blank false (rebuilt frames inside) ≡ (not (has_quote frames) && ends_blank false inside)
+ends_open texts [] [] inside these = refl
+ends_open texts [] (f ∷ frames) inside these = absurd these
+ends_open texts (b ∷ blocks) [] inside these = absurd these
+ends_open texts (b ∷ blocks) (f ∷ frames) inside these =
+    rw (
+      ends_last f (rebuilt frames inside),
+      in_container texts f.block.kind b.body these.0.body,
+      ends_open texts blocks frames inside these.1,
+    ) (none_of_two (is_quote f.block.kind) (has_quote frames) (ends_blank false inside))
+
+-- ---- a line that is not blank
+
+pub content_known : (outside : ℕ) (texts : List (List ℕ)) (blocks : List OpenBlock) (frames : List Frame)
+    (inside : Forest Block) → AreOpen texts blocks frames → ends_blank false inside ≡ false
+    → BlanksKnown None outside frames inside
+content_known outside texts [] [] inside these none = tt
+content_known outside texts [] (f ∷ frames) inside these none = absurd these
+content_known outside texts (b ∷ blocks) [] inside these none = absurd these
+content_known outside texts (b ∷ blocks) (f ∷ frames) inside these none = (
+  λ other. rw (ends_open texts blocks frames inside these.1, none) (sym (and-false (not (has_quote frames)))),
+  content_known (outside + 1) texts blocks frames inside these.1 none,
+)
+
+-- ---- a blank line
+
+-- a number is that of the containers down to the innermost block quote among these, or not more than those outside
+record QuoteAt (quoted outside : ℕ) (frames : List Frame) : Type 0 where
+  there : has_quote frames ≡ true → quoted ≡ outside + quote_depth frames
+  outer : has_quote frames ≡ false → quoted ≤ outside
+
+quote_inside : (quoted outside : ℕ) (f : Frame) (frames : List Frame) → QuoteAt quoted outside (f ∷ frames)
+    → QuoteAt quoted (outside + 1) frames
+quote_inside quoted outside f frames at = record {
+  there = λ some.
+      let whole : has_quote (f ∷ frames) ≡ true = rw some (or-true (is_quote f.block.kind)) in
+      omega (arith, at.there whole, quote_there f frames whole);
+  outer = λ none. by_kind (is_quote f.block.kind) refl none;
+}
+  where
+    by_kind : (quote : Bool) → is_quote f.block.kind ≡ quote → has_quote frames ≡ false → quoted ≤ outside + 1
+    by_kind true is none =
+        let whole : has_quote (f ∷ frames) ≡ true = rw is refl in
+        omega (arith, at.there whole, quote_there f frames whole, no_quote frames none)
+    by_kind false is none = omega (arith, at.outer (rw is none))
+
+from_there : (from : Option ℕ) (quoted outside : ℕ) → quoted ≤ outside
+    → is_blank_in (Some (blank_from from quoted)) (outside + 1) ≡ true
+from_there None quoted outside less = grind (arith, nat_tests)
+from_there (Some before) quoted outside less = grind (arith, nat_tests)
+
+not_there : (from : Option ℕ) (quoted depth : ℕ) → is_blank_in from depth ≡ false → depth ≤ quoted
+    → is_blank_in (Some (blank_from from quoted)) depth ≡ false
+not_there None quoted depth before less = grind (arith, nat_tests)
+not_there (Some n) quoted depth before less = grind (arith, nat_tests)
+
+-- the next container, from whether a block quote is in it
+seen_here : (from : Option ℕ) (quoted outside : ℕ) (texts : List (List ℕ)) (blocks : List OpenBlock) (f : Frame)
+    (frames : List Frame) (inside now : Forest Block) → AreOpen texts blocks frames → ends_blank false now ≡ true
+    → QuoteAt quoted outside (f ∷ frames) → is_quote f.block.kind ≡ false
+    → is_blank_in from (outside + 1) ≡ ends_blank false (rebuilt frames inside) → (some : Bool)
+    → has_quote frames ≡ some
+    → is_blank_in (Some (blank_from from quoted)) (outside + 1) ≡ ends_blank false (rebuilt frames now)
+seen_here from quoted outside texts blocks f frames inside now these blank at other known false is =
+    rw (ends_open texts blocks frames now these, is, blank) (from_there from quoted outside (at.outer (rw other is)))
+seen_here from quoted outside texts blocks f frames inside now these blank at other known true is =
+    let whole : has_quote (f ∷ frames) ≡ true = rw other is in
+    rw (ends_open texts blocks frames now these, is)
+    (not_there from quoted (outside + 1) (known ∙ rw (ends_open texts blocks frames inside these, is) refl)
+    (omega (arith, at.there whole, quote_there f frames whole)))
+
+seen_from : (from : Option ℕ) (quoted outside : ℕ) (texts : List (List ℕ)) (blocks : List OpenBlock)
+    (frames : List Frame) (inside now : Forest Block) → AreOpen texts blocks frames
+    → BlanksKnown from outside frames inside → ends_blank false now ≡ true → QuoteAt quoted outside frames
+    → BlanksKnown (Some (blank_from from quoted)) outside frames now
+seen_from from quoted outside texts [] [] inside now these known blank at = tt
+seen_from from quoted outside texts [] (f ∷ frames) inside now these known blank at = absurd these
+seen_from from quoted outside texts (b ∷ blocks) [] inside now these known blank at = absurd these
+seen_from from quoted outside texts (b ∷ blocks) (f ∷ frames) inside now these known blank at = (
+  λ other. seen_here from quoted outside texts blocks f frames inside now these.1 blank at other (known.0 other)
+      (has_quote frames) refl,
+  seen_from from quoted (outside + 1) texts blocks frames inside now these.1 known.1 blank
+      (quote_inside quoted outside f frames at),
+)
+
+-- the containers reached end with the blank line, down from the innermost block quote
+pub blank_known : (from : Option ℕ) (texts : List (List ℕ)) (blocks : List OpenBlock) (frames : List Frame)
+    (inside now : Forest Block) → AreOpen texts blocks frames → BlanksKnown from 0 frames inside
+    → ends_blank false now ≡ true → BlanksKnown (Some (blank_from from (quote_depth frames))) 0 frames now
+blank_known from texts blocks frames inside now these known blank =
+    seen_from from (quote_depth frames) 0 texts blocks frames inside now these known blank
+    (record { there = λ some. omega arith; outer = λ none. omega (arith, no_quote frames none) })
+
+-- blocks after which a blank line follows
+pub blank_at_end : (inside : Forest Block) (b : Block) → b.kind ≡ was.blank_line
+    → ends_blank false (followed_by inside (node b nil nil)) ≡ true
+blank_at_end inside b is = rw (ends_more, is) refl
+
+-- ---- containers that go on in a line
+
+ends_touched : (l : SourceLine) (frames : List Frame) (inside : Forest Block)
+    → ends_blank false (rebuilt (map (touched l) frames) inside) ≡ ends_blank false (rebuilt frames inside)
+ends_touched l [] inside = refl
+ends_touched l (f ∷ frames) inside =
+    ends_last (touched l f) _ ∙ rw (ends_touched l frames inside) (sym (ends_last f (rebuilt frames inside)))
+
+pub known_touched : (l : SourceLine) (from : Option ℕ) (outside : ℕ) (frames : List Frame) (inside : Forest Block)
+    → BlanksKnown from outside frames inside → BlanksKnown from outside (map (touched l) frames) inside
+known_touched l from outside [] inside known = tt
+known_touched l from outside (f ∷ frames) inside known = (
+  λ other. known.0 other ∙ sym (ends_touched l frames inside),
+  known_touched l from (outside + 1) frames inside known.1,
+)
+
+separated_touched : (l : SourceLine) (frames : List Frame) (inside : Forest Block)
+    → are_separated (rebuilt (map (touched l) frames) inside) ≡ are_separated (rebuilt frames inside)
+separated_touched l [] inside = refl
+separated_touched l (f ∷ frames) inside =
+    rw (closed_separated f (rebuilt frames inside)) (closed_separated (touched l f) _)
+
+loose_touched : (l : SourceLine) (frames : List Frame) (inside : Forest Block)
+    → is_loose (rebuilt (map (touched l) frames) inside) ≡ is_loose (rebuilt frames inside)
+loose_touched l [] inside = refl
+loose_touched l (f ∷ frames) inside =
+    loose_by_last (touched l f) (rebuilt (map (touched l) frames) inside)
+    ∙ rw (closed_separated (touched l f) nil, separated_touched l frames inside)
+    (sym (loose_by_last f (rebuilt frames inside) ∙ rw (closed_separated f nil) refl))
+
+pub lists_touched : (l : SourceLine) (frames : List Frame) (inside : Forest Block)
+    → are_loose (map (touched l) frames) inside ≡ are_loose frames inside
+lists_touched l [] inside = refl
+lists_touched l (f ∷ frames) inside = rw (loose_touched l frames inside, lists_touched l frames inside) refl
+
+empty_touched : (l : SourceLine) (empty : Bool) (frames : List Frame) (inside : Forest Block)
+    → EmptyKnown empty frames inside → EmptyKnown empty (map (touched l) frames) inside
+empty_touched l empty [] inside known = known
+empty_touched l empty (f ∷ []) inside known = known
+empty_touched l empty (f ∷ g ∷ frames) inside known = empty_touched l empty (g ∷ frames) inside known
+
+-- what is remembered of lists is the same
+pub same_touched : (l : SourceLine) (now : Looseness) (frames : List Frame) (inside : Forest Block)
+    → IsLooseAs now frames inside → IsLooseAs now (map (touched l) frames) inside
+same_touched l now frames inside loose = record {
+  lists = loose.lists ∙ sym (lists_touched l frames inside);
+  empty = empty_touched l now.item_is_empty frames inside loose.empty;
+}

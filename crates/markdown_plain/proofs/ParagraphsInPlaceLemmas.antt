@@ -5,6 +5,7 @@ use Rattle.std.proofs.Common.{◌-◌, subst}
 use Rattle.std.specs.Prelude.{nat_lt, ◌==◌, if◌then◌else◌}
 use Rattle.std.proofs.lemmas.Bool.Decides.{nat_tests}
 use Rattle.std.proofs.lemmas.List.{length-drop, length-take}
+use Rattle.std.specs.Str.{IsCharBoundary}
 use Rattle.markdown_base.specs.Forest.{Forest, nil, node}
 use Rattle.markdown_base.specs.declared.tag.HeadingLevel.{HeadingLevel}
 use Rattle.markdown_builder.specs.BuilderView.{BuilderView, Opens, with_items}
@@ -22,42 +23,36 @@ use Rattle.markdown_block_rules.specs.BlockRules.{Around, block_end, definitions
 use Rattle.markdown_block_rules.specs.BlockRules.{is_blank_block, label_of, paragraph_body, paragraph_lines}
 use Rattle.markdown_block_rules.specs.BlockRules.{shown_block, shown_blocks, shown_setext, shown_text, before_braces}
 use Rattle.markdown_block_rules.specs.BlockRules.{last_braces, paragraph_items, shown_heading}
-use Rattle.markdown_plain.specs.LeafTrees.{Appends}
+use Rattle.markdown_plain.specs.LeafTrees.{Appends, HasMoreTexts, HasTrees, HasItems}
 use Rattle.markdown_plain.specs.declared.pass.Pass.{Pass}
 use Rattle.markdown_plain.specs.Frames.{Frame}
-use Rattle.markdown_plain.specs.LeafTrees.{HasMoreTexts, HasTrees, HasItems}
 use Rattle.markdown_plain.specs.OpenLeaves.{HoldsParagraph, IsPlaced, ended_block, leaf_block}
 use Rattle.markdown_plain.specs.OpenedFrames.{around_innermost}
 use Rattle.markdown_plain.specs.ParagraphSteps.{EndsTo, ended_at, PlacesLines, TakesLines}
 use Rattle.markdown_plain.specs.Paragraphs.{divided_of, lines_end, paragraph_end, shown_ended, source_of, IsPlacedTo}
 use Rattle.markdown_plain.specs.Paragraphs.{first_task, task_left, EndsFrom, past}
 use Rattle.markdown_plain.specs.Settled.{IsBuilt, around_in, placed_end}
-use Rattle.markdown_plain.proofs.AppendedBlocksLemmas.{appended_is_built, end_appended}
-use Rattle.markdown_plain.proofs.ClosedFramesLemmas.{none_tight, some_level}
-use Rattle.markdown_plain.proofs.ParagraphsLemmas.{past_end, past_is_end, all_taken}
-use Rattle.std.specs.Str.{IsCharBoundary}
 use Rattle.markdown_builder.specs.declared.open_block.OpenBlock.{OpenBlock}
 use Rattle.markdown_lines.specs.declared.braces.Braces.{Braces}
-use Rattle.markdown_plain.proofs.LeafTreesLemmas.{put_heading, put_opened, no_text, texts_after}
-use Rattle.markdown_plain.proofs.OpenBlocksLemmas.{outer_of_opened}
-use Rattle.markdown_plain.proofs.ParagraphTreesLemmas.{heading_open, items_before_braces, not_cut}
 use Rattle.markdown_plain.specs.Fitting.{GoesOn, OpensHeading, OpensHeadingOf, PutsBlock, closed, stepped, defining}
 use Rattle.markdown_plain.specs.Closable.{AreInText, EndsHeading, HasRoomFor, HaveBraces, IsPlaceable}
 use Rattle.markdown_plain.specs.declared.paragraph.Ends.{Ends}
 use Rattle.markdown_lines.specs.declared.held_line.HeldLine.{HeldLine}
-use Rattle.markdown_plain.proofs.ClosableLemmas.{IsFirstLine, IsTextOpened}
 use Rattle.markdown_plain.specs.ParagraphItems.{heading_braces, text_items, AreSome}
 use Rattle.markdown_items.proofs.RestOfLineLemmas.{no_items}
 use Rattle.markdown_lines.specs.HeldLines.{AreHeldFrom, IsHeldLine}
 use Rattle.markdown_lines.specs.TaskMarkers.{task_read}
 use Rattle.markdown_scan.specs.declared.entity.EntityNames.{EntityNames}
-use Rattle.markdown_plain.proofs.ParagraphLinesLemmas.{on_false, range_length}
 use Rattle.markdown_plain.specs.HeldSources.{AreInOrder, AreTextLines, IsParagraph, IsTextLine}
 use Rattle.markdown_plain.specs.declared.placing.Placing.{Placing}
-use Rattle.markdown_plain.proofs.DividedLemmas.{as_many, fewer_behind}
-use Rattle.markdown_plain.proofs.ParagraphTreesLemmas.{none_behind}
 use Rattle.markdown_base.specs.declared.item.ItemBody.TheVariants as body
 use Rattle.markdown_block_rules.specs.BlockGrowth as was
+use Rattle.markdown_plain.proofs.ClosedFramesLemmas.{appended_is_built, end_appended, none_tight, some_level}
+use Rattle.markdown_plain.proofs.ClosableLemmas.{past_end, past_is_end, all_taken, IsFirstLine, IsTextOpened}
+use Rattle.markdown_plain.proofs.LeafTreesLemmas.{put_heading, put_opened, no_text, texts_after, outer_of_opened}
+use Rattle.markdown_plain.proofs.ParagraphTreesLemmas.{heading_open, items_before_braces, not_cut, on_false}
+use Rattle.markdown_plain.proofs.ParagraphTreesLemmas.{range_length, none_behind}
+use Rattle.markdown_plain.proofs.DefinitionsLemmas.{as_many, fewer_behind}
 
 -- ---- a text that was opened, filled and closed
 

@@ -1,14 +1,17 @@
--- What the open containers take of a line, by the open blocks and by the definition of blocks.
-use Rattle.std.proofs.Common.{◌≡◌, inl, inr, ℕ, zero, suc, ◌+◌, ◌-◌, ◌<◌, ◌≤◌, Bool, true, false, List, [], ◌∷◌}
-use Rattle.std.proofs.Common.{◌++◌, length, drop, nat_le, nat_lt, refl, sym, ap, subst, ◌∙◌, arith}
+-- What the open containers take of a line, blank or not, by the open blocks and by the definition of blocks; and when
+-- the last block goes on in no line, or lazily.
+use Rattle.std.proofs.Common.{◌≡◌, inl, inr, ℕ, zero, suc, ◌+◌, ◌-◌, ◌<◌, ◌≤◌, Bool, true, false, List, [], ◌∷◌, ◌++◌}
+use Rattle.std.proofs.Common.{length, drop, nat_le, nat_lt, refl, sym, ap, subst, ◌∙◌, arith, map, nat_eq, ⊎_elim}
 use Rattle.std.specs.Prelude.{Option, Some, None, not, ◌==◌, ◌||◌, ◌&&◌, if◌then◌else◌, codes}
 use Rattle.std.specs.List.{list_all, prefix_len}
 use Rattle.std.specs.Option.{IfSome, option_map}
-use Rattle.std.proofs.lemmas.Bool.{and_parts, or_parts, true≢false}
+use Rattle.std.proofs.lemmas.Bool.{and_parts, or_parts, true≢false, cases_Bool}
 use Rattle.std.proofs.lemmas.Bool.Decides.{eqb_tells, nat_tests}
 use Rattle.std.proofs.lemmas.List.Sums.{prefix_len-le-length}
+use Rattle.std.proofs.lemmas.List.{map-append}
+use Rattle.std.proofs.lemmas.Option.{none-some, same_Some}
 use Rattle.markdown_base.specs.Bytes.{space, tab}
-use Rattle.markdown_base.specs.Forest.{Forest}
+use Rattle.markdown_base.specs.Forest.{Forest, nil, node}
 use Rattle.markdown_base.specs.declared.item.ItemBody.{ItemBody}
 use Rattle.markdown_builder.specs.declared.open_block.OpenBlock.{OpenBlock}
 use Rattle.markdown_scan.specs.Beginnings.{begins_with}
@@ -20,21 +23,28 @@ use Rattle.markdown_lines.specs.Lines.{is_space_or_tab}
 use Rattle.markdown_base.specs.Source.{Source}
 use Rattle.markdown_lines.specs.SourceLines.{SourceLine, is_blank_rest, rest_inside, stop_of}
 use Rattle.markdown_lines.proofs.BlockStartsLemmas.{is_blank, is_not_blank}
-use Rattle.markdown_block_rules.specs.BlockGrowth as was
-use Rattle.markdown_block_rules.specs.BlockGrowth.{Block, Kind, is_nil}
+use Rattle.markdown_block_rules.specs.BlockGrowth.{Block, Kind, is_nil, goes_on, is_text, lazily, with_lazy, with_line}
 use Rattle.markdown_block_rules.proofs.BlockBeginningsLemmas.{either}
-use Rattle.markdown_plain.specs.declared.containers.Reached as code
 use Rattle.markdown_plain.specs.declared.pass.Pass.{Pass}
 use Rattle.markdown_plain.specs.Containers.{Reach, content_of, is_container, is_innermost, past_container, reach_after}
 use Rattle.markdown_plain.specs.Containers.{reach_from, reach_of, reach_past, reach_start, whole_line}
-use Rattle.markdown_plain.specs.OpenBlocks as by_body
 use Rattle.markdown_plain.specs.Frames.{Frame, Reached, inside_container, is_list, is_quote, reached, reached_here}
-use Rattle.markdown_plain.specs.Frames.{reached_past, rebuilt}
-use Rattle.markdown_plain.specs.Settled.{AreOpen, EmptyKnown, IsBodyOf}
+use Rattle.markdown_plain.specs.Frames.{reached_past, rebuilt, AreContainers, AreNested, AreOver, IsContainer}
+use Rattle.markdown_plain.specs.Frames.{forgotten, touched, is_item}
+use Rattle.markdown_plain.specs.Settled.{AreOpen, EmptyKnown, IsBodyOf, EmptyKnownIn, QuotesEnd}
 use Rattle.markdown_plain.specs.ReachedFrames.{IsAtMostLeaf, IsBefore, IsReached, are_none, quote_depth}
-use Rattle.markdown_plain.proofs.FramesLemmas.{ends_in_block}
+use Rattle.markdown_lines.specs.BlockBeginnings.{begins}
+use Rattle.markdown_builder.specs.TreeLevels.{followed_by}
+use Rattle.markdown_plain.specs.OpenLeaves.{leaf_block}
+use Rattle.markdown_block_rules.specs.BlockGrowth as was
+use Rattle.markdown_plain.specs.declared.containers.Reached as code
+use Rattle.markdown_plain.specs.OpenBlocks as by_body
+use Rattle.markdown_lines.specs.declared.block_start.Before.TheVariants as paragraph
+use Rattle.markdown_plain.proofs.FramesLemmas.{ends_in_block, by_test, container_goes_lazily, goes_on_last}
+use Rattle.markdown_plain.proofs.FramesLemmas.{inner_containers, rebuilt_in, touched_alike, with_lazy_last}
+use Rattle.markdown_plain.proofs.FramesLemmas.{inner_goes_lazily, last_goes_on, reached_next, reached_parts}
+use Rattle.markdown_plain.proofs.FramesLemmas.{reached_same}
 use Rattle.markdown_plain.proofs.LeafTreesLemmas.{few_owed, on_test}
-use Rattle.markdown_plain.proofs.ReachedLemmas.{by_test}
 
 -- ---- what space leaves
 
@@ -423,3 +433,313 @@ frames_reached pass line s frames inside source result is before =
       blank = rw (found.end, found.content) (blank_at r.rest.left);
       quoted = found.quoted ∙ quoted_outside (quote_depth r.outer);
     }
+
+-- ---- blocks that are over
+
+-- a leaf of this kind goes on in no line
+abbrev pub is_over : Kind → Bool
+is_over was.blank_line = true
+is_over (was.underlined_leaf level lines) = true
+is_over (was.heading_leaf found) = true
+is_over was.break_leaf = true
+is_over (was.fenced_leaf opening closed lines) = closed
+is_over (was.html_leaf kind closed lines) = closed
+is_over (was.metadata_leaf kind closed lines) = closed
+is_over (was.table_leaf ended head alignments rows) = ended
+is_over other = false
+
+leaf_goes_not : (s : Source) (l : SourceLine) (start first last : ℕ) (kind : Kind) → is_over kind ≡ true
+    → goes_on s (node (record { start = start; first = first; last = last; kind = kind }) nil nil) l ≡ None
+unfolding goes_on
+leaf_goes_not s l start first last was.blank_line over = refl
+leaf_goes_not s l start first last (was.underlined_leaf level lines) over = refl
+leaf_goes_not s l start first last (was.heading_leaf found) over = refl
+leaf_goes_not s l start first last was.break_leaf over = refl
+leaf_goes_not s l start first last (was.fenced_leaf opening true lines) over = refl
+leaf_goes_not s l start first last (was.html_leaf kind true lines) over = refl
+leaf_goes_not s l start first last (was.metadata_leaf kind true lines) over = refl
+leaf_goes_not s l start first last (was.table_leaf true head alignments rows) over = refl
+leaf_goes_not s l start first last other over = absurd (true≢false (sym over))
+
+leaf_goes_lazily_not : (l : SourceLine) (start first last : ℕ) (kind : Kind) → is_over kind ≡ true
+    → with_lazy l (node (record { start = start; first = first; last = last; kind = kind }) nil nil) ≡ None
+unfolding with_lazy
+leaf_goes_lazily_not l start first last (was.paragraph_leaf lines) over = absurd (true≢false (sym over))
+leaf_goes_lazily_not l start first last other over = refl
+
+pub leaf_is_over : (s : Source) (before : Forest Block) (b : Block) → is_over b.kind ≡ true
+    → AreOver s (followed_by before (node b nil nil))
+leaf_is_over s before b over l = (
+  rw (goes_on_last s before b nil l, leaf_goes_not s l b.start b.first b.last b.kind over) refl,
+  rw (with_lazy_last before b nil l, leaf_goes_lazily_not l b.start b.first b.last b.kind over) refl,
+)
+
+pub nothing_is_over : (s : Source) → AreOver s nil
+unfolding goes_on with_lazy
+nothing_is_over s l = (refl, refl)
+
+-- ---- inside open containers
+
+-- open blocks that a builder has are containers
+pub open_are_containers : (texts : List (List ℕ)) (blocks : List OpenBlock) (frames : List Frame)
+    → AreOpen texts blocks frames → AreContainers frames
+open_are_containers texts [] [] are = tt
+open_are_containers texts [] (f ∷ frames) are = absurd are
+open_are_containers texts (block ∷ blocks) [] are = absurd are
+open_are_containers texts (block ∷ blocks) (f ∷ frames) are =
+    (is_container f.block.kind are.0.body, open_are_containers texts blocks frames are.1)
+  where
+    is_container : (kind : Kind) → IsBodyOf texts kind block.body → IsContainer kind
+    is_container was.quote_container body = tt
+    is_container (was.alert_container kind) body = tt
+    is_container (was.list_container marker) body = tt
+    is_container (was.item_container indent) body = tt
+    is_container (was.footnote_container label) body = tt
+    is_container other body = absurd body
+
+-- blocks go on lazily as those in the innermost open container do
+pub lazily_inside : (l : SourceLine) (frames : List Frame) (inside : Forest Block) → AreContainers frames
+    → with_lazy l (rebuilt frames inside) ≡ option_map (rebuilt (map (touched l) frames)) (with_lazy l inside)
+lazily_inside l [] inside are = in_none (with_lazy l inside)
+  where
+    in_none : (grown : Option (Forest Block)) → grown ≡ option_map (rebuilt []) grown
+    in_none None = refl
+    in_none (Some blocks) = refl
+lazily_inside l (f ∷ frames) inside are =
+    rw (container_goes_lazily f (rebuilt frames inside) l are.0, lazily_inside l frames inside are.1)
+    (in_one (with_lazy l inside))
+  where
+    in_one : (grown : Option (Forest Block))
+        → option_map (forgotten (touched l f)) (option_map (rebuilt (map (touched l) frames)) grown)
+        ≡ option_map (rebuilt (map (touched l) (f ∷ frames))) grown
+    in_one None = refl
+    in_one (Some blocks) = refl
+
+-- a line that does not reach all open containers continues a paragraph lazily: all of them go on
+pub line_goes_lazily : (s : Source) (frames : List Frame) (inside : Forest Block) (l : SourceLine)
+    (are : AreContainers frames) (nested : AreNested frames) (f : Frame) (others : List Frame) (grown : Forest Block)
+    → (reached s frames inside l).inner ≡ f ∷ others → is_blank_rest (reached s frames inside l).rest ≡ false
+    → is_text (begins s paragraph.Lazy (reached s frames inside l).rest) ≡ true
+    → with_lazy (reached s frames inside l).rest inside ≡ Some grown
+    → with_line s (rebuilt frames inside) l ≡ rebuilt (map (touched l) frames) grown
+line_goes_lazily s frames inside l are nested f others grown some filled text goes =
+    let r = reached s frames inside l in
+    let inner = inner_containers r.outer r.inner (subst AreContainers (sym (reached_parts s frames inside l)) are) in
+    let lazy : lazily s r.rest (rebuilt r.inner inside) ≡ with_lazy r.rest (rebuilt r.inner inside) =
+    rw (filled, text) refl in
+    let inside_goes = lazily_inside r.rest r.inner inside inner
+    ∙ ap (option_map (rebuilt (map (touched r.rest) r.inner))) goes in
+    last_goes_on s frames inside l are nested (rebuilt (map (touched r.rest) r.inner) grown)
+    (inner_goes_lazily s frames inside l f others are some ∙ (lazy ∙ inside_goes))
+    ∙ (ap (λ (fs : List Frame). rebuilt (map (touched l) r.outer) (rebuilt fs grown))
+    (touched_alike l r.rest r.inner (reached_next s frames inside l))
+    ∙ (sym (rebuilt_in (map (touched l) r.outer) (map (touched l) r.inner) grown)
+    ∙ ap (λ (fs : List Frame). rebuilt fs grown)
+    (sym (map-append (touched l) r.outer r.inner) ∙ ap (map (touched l)) (reached_parts s frames inside l))))
+
+-- where what is in the innermost is over, nothing goes on behind those that the line reaches
+pub nothing_goes_on : (s : Source) (frames : List Frame) (inside : Forest Block) (l : SourceLine)
+    → AreContainers frames → AreOver s inside
+    → goes_on s (rebuilt (reached s frames inside l).inner inside) (reached s frames inside l).rest ≡ None
+nothing_goes_on s frames inside l are over = decided r.inner refl
+  where
+    r : Reached
+    r = reached s frames inside l
+
+    inner : AreContainers r.inner
+    inner = inner_containers r.outer r.inner (rw (reached_parts s frames inside l) are)
+
+    never : lazily s r.rest (rebuilt r.inner inside) ≡ None
+    never =
+        let none : with_lazy r.rest (rebuilt r.inner inside) ≡ None =
+        rw (lazily_inside r.rest r.inner inside inner, (over r.rest).1) refl in
+        on_test (λ o. o ≡ None) (not (is_blank_rest r.rest) && is_text (begins s paragraph.Lazy r.rest)) _ None
+        (λ test. none) (λ test. refl)
+
+    decided : (frames_inside : List Frame) → r.inner ≡ frames_inside → goes_on s (rebuilt r.inner inside) r.rest ≡ None
+    decided [] is = rw is (over r.rest).0
+    decided (f ∷ others) is = inner_goes_lazily s frames inside l f others are is ∙ never
+
+-- ---- what is left of a blank line
+
+-- no column of space makes a line blank
+pub blank_alike : (n : ℕ) (left : LineLeft)
+    → list_all is_space_or_tab (leading_space n left).after.bytes ≡ list_all is_space_or_tab left.bytes
+blank_alike n left =
+    let after = (leading_space n left).after in
+    let alike = space_alike n left in
+    sym (blank_at after) ∙ (ap (λ m. nat_le m (content_of after)) alike.end
+    ∙ (ap (nat_le (end_of left)) alike.content ∙ blank_at left))
+
+-- a marker is no white space
+no_marker : (bytes : List ℕ) → list_all is_space_or_tab bytes ≡ true → begins_with (codes ">") bytes ≡ false
+no_marker [] white = refl
+no_marker (b ∷ bytes) white =
+    ⊎_elim (λ (e : nat_eq 62 b ≡ true). absurd (not_both b e (first (is_space_or_tab b) white)))
+    (λ (e : nat_eq 62 b ≡ false). rw e refl) (cases_Bool (nat_eq 62 b))
+  where
+    first : (one : Bool) → (one && list_all is_space_or_tab bytes) ≡ true → one ≡ true
+    first true e = refl
+    first false e = e
+
+    not_both : (b : ℕ) → nat_eq 62 b ≡ true → is_space_or_tab b ≡ true → ⊥
+    not_both b marker white = grind (arith, nat_tests, marker, white)
+
+-- a blank line is in no block quote
+not_in_quote : (l : SourceLine) → is_blank_rest l ≡ true → past_quote l.left ≡ None
+not_in_quote l blank =
+    let space = leading_space 4 l.left in
+    let none = no_marker space.after.bytes (blank_alike 4 l.left ∙ blank) in
+    rw none (neither (nat_lt space.columns 4) (Some (past_marker space.after)))
+  where
+    neither : (test : Bool) (some : Option LineLeft) → (if test && false then some else None) ≡ None
+    neither true some = refl
+    neither false some = refl
+
+-- what a container leaves of a line without a marker is as blank as the line
+pub indented_alike : (l m : SourceLine) (indent : ℕ)
+    → option_map (λ rest. rest_inside rest l) (past_indent indent l.left) ≡ Some m
+    → is_blank_rest m ≡ is_blank_rest l
+indented_alike l m indent takes =
+    let space = leading_space indent l.left in
+    by_test ((space.columns == indent) || is_line_over space.after.bytes) takes
+  where
+    by_test : (test : Bool) → option_map (λ rest. rest_inside rest l)
+        (if test then Some (leading_space indent l.left).after else None) ≡ Some m
+        → is_blank_rest m ≡ is_blank_rest l
+    by_test true takes =
+        ap is_blank_rest (sym (same_Some (rest_inside (leading_space indent l.left).after l) m takes))
+        ∙ blank_alike indent l.left
+    by_test false takes = absurd (none-some m takes)
+
+-- the same in a footnote definition
+pub note_alike : (l m : SourceLine) (gfm : Bool)
+    → option_map (λ rest. rest_inside rest l) (past_footnote gfm l.left) ≡ Some m → is_blank_rest m ≡ is_blank_rest l
+note_alike l m true takes = indented_alike l m 4 takes
+note_alike l m false takes = ap is_blank_rest (sym (same_Some (rest_inside l.left l) m takes))
+
+-- a container in which something is left of a line has not ended before it
+pub goes_on_in : (ends : Bool) (left : Option SourceLine) (m : SourceLine) → (if ends then None else left) ≡ Some m
+    → left ≡ Some m
+goes_on_in true left m takes = absurd (none-some m takes)
+goes_on_in false left m takes = takes
+
+-- a blank line goes past no block quote, and what it leaves is blank
+record TakesBlank (kind : Kind) (m : SourceLine) : Type 0 where
+  plain : is_quote kind ≡ false
+  blank : is_blank_rest m ≡ true
+
+blank_taken : (s : Source) (l m : SourceLine) (empty : Bool) (kind : Kind) → is_blank_rest l ≡ true
+    → inside_container s l empty kind ≡ Some m → TakesBlank kind m
+blank_taken s l m empty was.quote_container blank takes =
+    absurd (none-some m (sym (ap (option_map (λ rest. rest_inside rest l)) (not_in_quote l blank)) ∙ takes))
+blank_taken s l m empty (was.alert_container kind) blank takes =
+    absurd (none-some m (sym (ap (option_map (λ rest. rest_inside rest l)) (not_in_quote l blank)) ∙ takes))
+blank_taken s l m empty (was.item_container indent) blank takes =
+    let inside = goes_on_in (is_blank_rest l && empty) _ m takes in
+    record { plain = refl; blank = indented_alike l m indent inside ∙ blank }
+blank_taken s l m empty (was.footnote_container label) blank takes =
+    let inside = goes_on_in (is_blank_rest l && s.syntax.old_footnotes) _ m takes in
+    record { plain = refl; blank = note_alike l m (not s.syntax.old_footnotes) inside ∙ blank }
+blank_taken s l m empty other blank takes =
+    record { plain = refl; blank = ap is_blank_rest (sym (same_Some l m takes)) ∙ blank }
+
+-- an item that goes on in a blank line is not empty
+item_taken : (s : Source) (l m : SourceLine) (empty : Bool) (kind : Kind) → is_item kind ≡ true
+    → inside_container s l empty kind ≡ Some m → is_blank_rest m ≡ true → empty ≡ false
+item_taken s l m empty (was.item_container indent) item takes blank = by_both (is_blank_rest l) empty refl takes
+  where
+    by_both : (white empty : Bool) → white ≡ is_blank_rest l → (if white && empty then None
+        else option_map (λ rest. rest_inside rest l) (past_indent indent l.left)) ≡ Some m → empty ≡ false
+    by_both white false is takes = refl
+    by_both true true is takes = absurd (none-some m takes)
+    by_both false true is takes = sym blank ∙ (indented_alike l m indent takes ∙ sym is)
+item_taken s l m empty other item takes blank = absurd (true≢false (sym item))
+
+-- ---- which containers go on
+
+-- no block quote goes on in a blank line
+pub blank_quotes : (s : Source) (frames : List Frame) (inside : Forest Block) (whole l : SourceLine) (to : ℕ)
+    → is_blank_rest l ≡ true → QuotesEnd to (map (touched whole) (reached s frames inside l).outer)
+unfolding reached
+blank_quotes s [] inside whole l to blank = tt
+blank_quotes s (f ∷ frames) inside whole l to blank =
+    past (inside_container s l (is_nil (rebuilt frames inside)) f.block.kind) refl
+    (λ m white. blank_quotes s frames inside whole m to white)
+  where
+    past : (rest : Option SourceLine)
+        → inside_container s l (is_nil (rebuilt frames inside)) f.block.kind ≡ rest
+        → ((m : SourceLine) → is_blank_rest m ≡ true
+        → QuotesEnd to (map (touched whole) (reached s frames inside m).outer))
+        → QuotesEnd to (map (touched whole) (reached_past f frames l (reached s frames inside) rest).outer)
+    past None takes ends = tt
+    past (Some m) takes ends =
+        let taken = blank_taken s l m (is_nil (rebuilt frames inside)) f.block.kind blank takes in
+        (λ quote. absurd (true≢false (sym quote ∙ taken.plain)), ends m taken.blank)
+
+-- the innermost of some open containers is no empty item
+abbrev pub NoEmptyItem : List Frame → Forest Block → Type 0
+NoEmptyItem [] inside = Unit
+NoEmptyItem (f ∷ []) inside = is_item f.block.kind ≡ true → is_nil inside ≡ false
+NoEmptyItem (f ∷ g ∷ frames) inside = NoEmptyItem (g ∷ frames) inside
+
+-- where no container goes on, all of the line is left
+pub whole_left : (s : Source) (frames : List Frame) (inside : Forest Block) (l : SourceLine)
+    → (reached s frames inside l).outer ≡ [] → (reached s frames inside l).rest ≡ l
+unfolding reached
+whole_left s [] inside l none = refl
+whole_left s (f ∷ frames) inside l none =
+    past (inside_container s l (is_nil (rebuilt frames inside)) f.block.kind) none
+  where
+    some_first : (fs : List Frame) → f ∷ fs ≡ [] → ⊥
+    some_first fs e = cc (e)
+
+    past : (rest : Option SourceLine) → (reached_past f frames l (reached s frames inside) rest).outer ≡ []
+        → (reached_past f frames l (reached s frames inside) rest).rest ≡ l
+    past None none = refl
+    past (Some m) none = absurd (some_first (reached s frames inside m).outer none)
+
+pub item_reached : (s : Source) (frames : List Frame) (inside : Forest Block) (l : SourceLine)
+    → is_blank_rest (reached s frames inside l).rest ≡ true
+    → NoEmptyItem (reached s frames inside l).outer (rebuilt (reached s frames inside l).inner inside)
+unfolding reached
+item_reached s [] inside l blank = tt
+item_reached s (f ∷ frames) inside l blank =
+    past (inside_container s l (is_nil (rebuilt frames inside)) f.block.kind) refl
+    (λ m white. item_reached s frames inside m white) blank
+  where
+    around : (m : SourceLine) (outer : List Frame) → (reached s frames inside m).outer ≡ outer
+        → inside_container s l (is_nil (rebuilt frames inside)) f.block.kind ≡ Some m
+        → is_blank_rest (reached s frames inside m).rest ≡ true
+        → NoEmptyItem outer (rebuilt (reached s frames inside m).inner inside)
+        → NoEmptyItem (f ∷ outer) (rebuilt (reached s frames inside m).inner inside)
+    around m [] none takes white more = λ item.
+        let r = reached s frames inside m in
+        let same : rebuilt r.inner inside ≡ rebuilt frames inside =
+        ap (λ (fs : List Frame). rebuilt fs (rebuilt r.inner inside)) (sym none) ∙ reached_same s frames inside m in
+        ap is_nil same ∙ item_taken s l m (is_nil (rebuilt frames inside)) f.block.kind item takes
+        (ap is_blank_rest (sym (whole_left s frames inside m none)) ∙ white)
+    around m (g ∷ outer) some takes white more = more
+
+    past : (rest : Option SourceLine)
+        → inside_container s l (is_nil (rebuilt frames inside)) f.block.kind ≡ rest
+        → ((m : SourceLine) → is_blank_rest (reached s frames inside m).rest ≡ true
+        → NoEmptyItem (reached s frames inside m).outer (rebuilt (reached s frames inside m).inner inside))
+        → is_blank_rest (reached_past f frames l (reached s frames inside) rest).rest ≡ true
+        → NoEmptyItem (reached_past f frames l (reached s frames inside) rest).outer
+        (rebuilt (reached_past f frames l (reached s frames inside) rest).inner inside)
+    past None takes more blank = tt
+    past (Some m) takes more blank = around m (reached s frames inside m).outer refl takes blank (more m blank)
+
+-- with a blank line in it the innermost container is as empty as before
+pub empty_blank : (empty : Bool) (frames : List Frame) (inside : Forest Block) (b : Block) → NoEmptyItem frames inside
+    → EmptyKnown empty frames inside → EmptyKnown empty frames (followed_by inside (leaf_block b))
+empty_blank empty [] inside b some known = tt
+empty_blank empty (f ∷ []) inside b some known = by_kind f.block.kind some known
+  where
+    by_kind : (kind : Kind) → (is_item kind ≡ true → is_nil inside ≡ false) → EmptyKnownIn empty inside kind
+        → EmptyKnownIn empty (followed_by inside (leaf_block b)) kind
+    by_kind (was.item_container indent) some known = known ∙ (some refl ∙ sym (ends_in_block inside b nil))
+    by_kind (was.list_container marker) some known = tt
+    by_kind other some known = known
+empty_blank empty (f ∷ g ∷ frames) inside b some known = empty_blank empty (g ∷ frames) inside b some known

@@ -17,7 +17,6 @@ use Rattle.std.proofs.lemmas.Str.{IsCharBoundary-after_ascii, IsCharBoundary-bef
 use Rattle.markdown_base.specs.Bytes.{backslash, pipe}
 use Rattle.markdown_base.specs.Forest.{Forest, nil, node, roots}
 use Rattle.markdown_base.specs.declared.item.ItemBody.{ItemBody}
-use Rattle.markdown_base.specs.declared.item.ItemBody.TheVariants as body
 use Rattle.markdown_builder.specs.declared.open_block.OpenBlock.{OpenBlock}
 use Rattle.markdown_builder.specs.BuilderView.{BuilderView, Opens, innermost_block, parts_of, with_items}
 use Rattle.markdown_builder.specs.Bodies.{is_leaf}
@@ -52,12 +51,12 @@ use Rattle.markdown_plain.specs.LeafTrees.{HasItems, HasMoreTexts, HasTrees}
 use Rattle.markdown_plain.specs.OpenBlocks.{outer_of}
 use Rattle.markdown_plain.specs.Paragraphs.{IsPlacedTo}
 use Rattle.markdown_plain.specs.TableRows.{IsCellIn, IsOnePiece, MayAddCell, PutsTrees, cells_placed, line_row}
-use Rattle.markdown_plain.proofs.ParagraphLinesLemmas.{range_byte, range_length}
+use Rattle.markdown_base.specs.declared.item.ItemBody.TheVariants as body
+use Rattle.markdown_plain.proofs.ParagraphTreesLemmas.{range_byte, range_length}
 use Rattle.markdown_plain.proofs.LeafTreesLemmas.{closed_tree, no_text, on_test, put_opened, same_block, texts_after}
-use Rattle.markdown_plain.proofs.LeafTreesLemmas.{trees_last}
-use Rattle.markdown_plain.proofs.OpenBlocksLemmas.{innermost_of_opened, outer_of_opened}
+use Rattle.markdown_plain.proofs.LeafTreesLemmas.{trees_last, innermost_of_opened, outer_of_opened}
 use Rattle.markdown_plain.proofs.ClosableLemmas.{end_passes}
-use Rattle.markdown_plain.proofs.FittingLemmas.{some_opened}
+use Rattle.markdown_plain.proofs.ReadyLinesLemmas.{some_opened}
 
 -- ---- where a piece of a cell's content ends
 

@@ -1,54 +1,506 @@
--- What a line reaches is text: it begins between characters, and nothing but a paragraph goes on in it.
-use Rattle.std.proofs.Common.{slice_range}
-use Rattle.std.proofs.Common.{◌≡◌, ℕ, ◌+◌, ◌-◌, ◌<◌, ◌≤◌, Bool, true, false, not, ◌&&◌, ◌||◌, ◌==◌, List, [], ◌∷◌, ◌++◌}
-use Rattle.std.proofs.Common.{Option, Some, None, length, get_or, codes, nat_le, nat_lt, arith, refl, sym, ap, ◌∙◌}
-use Rattle.std.proofs.Common.{subst, true≢false}
+-- What is open before a line; a leaf that goes on in the line, or leaves off; and text, which the line reaches or
+-- which continues a paragraph lazily.
+use Rattle.std.proofs.Common.{◌≡◌, ℕ, Bool, true, false, not, ◌&&◌, ◌||◌, List, [], ◌∷◌, ◌++◌, Option, Some, None, map}
+use Rattle.std.proofs.Common.{refl, sym, ap, ◌∙◌, append-nil, true≢false, slice_range, ◌+◌, ◌-◌, ◌<◌, ◌≤◌, ◌==◌, length}
+use Rattle.std.proofs.Common.{get_or, codes, nat_le, nat_lt, arith, subst}
+use Rattle.std.proofs.Math.Bool.{and-false, or-false}
+use Rattle.std.specs.Prelude.{if◌then◌else◌, unwrap_or}
+use Rattle.std.specs.Option.{option_map, option_or, IfSome}
 use Rattle.std.specs.List.{prefix_len}
-use Rattle.std.specs.Option.{IfSome, option_map}
 use Rattle.std.specs.Str.{IsCharBoundary, IsUtf8}
 use Rattle.std.proofs.lemmas.Bool.{and_parts, or_parts}
 use Rattle.std.proofs.lemmas.Bool.Decides.{nat_tests}
 use Rattle.std.proofs.lemmas.List.{length-append}
 use Rattle.std.proofs.lemmas.Str.{IsCharBoundary-after_ascii}
-use Rattle.markdown_base.specs.Forest.{Forest, nil}
+use Rattle.markdown_base.specs.Forest.{Forest, nil, node}
+use Rattle.markdown_builder.specs.BuilderView.{BuilderView}
 use Rattle.markdown_builder.specs.TreeLevels.{followed_by}
 use Rattle.markdown_builder.specs.declared.open_block.OpenBlock.{OpenBlock}
+use Rattle.markdown_base.specs.Source.{Source}
+use Rattle.markdown_lines.specs.SourceLines.{SourceLine, is_blank_rest, text_line, rest_inside, stop_of}
+use Rattle.markdown_lines.specs.declared.line.Line.{Line}
+use Rattle.markdown_block_rules.specs.BlockGrowth.{Block, Kind, container_with, goes_on, is_nil, leaf_with, table_with}
+use Rattle.markdown_block_rules.specs.BlockGrowth.{with_line, is_text, with_lazy, paragraph_with, content_of, lazily}
+use Rattle.markdown_block_rules.specs.BlockRules.{are_separated, ends_blank, hold_separated, in_no_item, is_blank_block}
+use Rattle.markdown_block_rules.specs.BlockRules.{is_loose, shown_blocks}
+use Rattle.markdown_plain.specs.declared.looseness.Looseness.{Looseness}
+use Rattle.markdown_plain.specs.declared.pass.Pass.{Pass}
+use Rattle.markdown_plain.specs.Closing.{MayEnd, AreItemsInLists}
+use Rattle.markdown_plain.specs.Containers.{is_innermost}
+use Rattle.markdown_plain.specs.Frames.{AreContainers, AreNested, Frame, is_list, reached, rebuilt, touched, Reached}
+use Rattle.markdown_plain.specs.Frames.{innermost_is, is_item, inside_container}
+use Rattle.markdown_plain.specs.OpenBlocks.{without_leaf}
+use Rattle.markdown_plain.specs.OpenLeaves.{IsOpenIn, is_leaf, leaf_block}
+use Rattle.markdown_plain.specs.ReachedFrames.{IsAtMostLeaf, IsBefore, IsReached, are_none}
+use Rattle.markdown_plain.specs.ReachedLines.{Before, IsReachedBy, blocks_in, LeavesOff, reached_of}
+use Rattle.markdown_plain.specs.Settled.{AreOpen, EmptyKnown, EmptyKnownIn, IsBuilt, IsLooseAs, are_loose, placed_end}
+use Rattle.markdown_plain.specs.Settled.{IsLooseBefore}
+use Rattle.markdown_plain.specs.Standing.{HasLast, IsSource, KnowsLast, Stands, with_last}
+use Rattle.markdown_lines.specs.BlockBeginnings.{begins}
+use Rattle.markdown_block_rules.specs.TableLines.{further_line}
+use Rattle.markdown_plain.specs.TableHeads.{next_line}
+use Rattle.markdown_plain.specs.TextLines.{with_text, IsContentAt, IsTextFrom, IsTextHere, paragraph_before}
 use Rattle.markdown_scan.specs.ContainerParts.{past_footnote, past_indent, past_quote}
 use Rattle.markdown_scan.specs.Beginnings.{begins_with}
 use Rattle.markdown_scan.specs.LineStart.{LineLeft, Space, column_after, leading_space, past_marker, past_one_byte}
 use Rattle.markdown_scan.specs.LineStart.{is_line_over, next_column, space_from, space_width}
-use Rattle.markdown_lines.specs.declared.block_start.Before.TheVariants as paragraph
-use Rattle.markdown_lines.specs.declared.line.Line.{Line}
 use Rattle.markdown_lines.specs.declared.position.Position.{Position}
 use Rattle.markdown_plain.specs.HeldSources.{IsRest}
-use Rattle.markdown_base.specs.Source.{Source}
-use Rattle.markdown_lines.specs.BlockBeginnings.{begins}
 use Rattle.markdown_lines.specs.Lines.{is_space_or_tab}
 use Rattle.markdown_lines.specs.Positions.{left_from}
-use Rattle.markdown_lines.specs.SourceLines.{SourceLine, is_blank_rest, rest_inside, stop_of}
 use Rattle.markdown_lines.proofs.BlockStartsLemmas.{slice_same}
 use Rattle.markdown_lines.proofs.PositionsLemmas.{in_part}
-use Rattle.markdown_block_rules.specs.BlockGrowth as was
-use Rattle.markdown_block_rules.specs.BlockGrowth.{Block, Kind, content_of, goes_on, is_nil, is_text, lazily}
-use Rattle.markdown_block_rules.specs.BlockGrowth.{leaf_with, with_lazy}
-use Rattle.markdown_plain.specs.declared.containers.Reached as code
-use Rattle.markdown_plain.specs.declared.pass.Pass.{Pass}
-use Rattle.markdown_plain.specs.Closing.{MayEnd}
-use Rattle.markdown_plain.specs.Frames.{AreContainers, Frame, Reached, inside_container, reached, rebuilt}
-use Rattle.markdown_plain.specs.OpenLeaves.{is_leaf, leaf_block}
 use Rattle.markdown_plain.specs.Paragraphs.{has_paragraph}
-use Rattle.markdown_plain.specs.ReachedFrames.{are_none}
-use Rattle.markdown_plain.specs.ReachedLines.{Before, IsReachedBy, LeavesOff, blocks_in, reached_of}
-use Rattle.markdown_plain.specs.Settled.{AreOpen}
-use Rattle.markdown_plain.specs.Standing.{IsSource, Stands, with_last}
-use Rattle.markdown_plain.specs.TextLines.{IsContentAt, IsTextFrom, IsTextHere, paragraph_before}
-use Rattle.markdown_plain.proofs.AddedLinesLemmas.{has_held}
+use Rattle.markdown_block_rules.specs.BlockGrowth as was
+use Rattle.markdown_plain.specs.OpenLeaves as leaves
+use Rattle.markdown_plain.specs.declared.containers.Reached as code
+use Rattle.markdown_lines.specs.declared.block_start.Before.TheVariants as paragraph
+use Rattle.markdown_lines.specs.BlockBeginnings as line
+use Rattle.markdown_plain.proofs.OpenListsLemmas.{same_touched, closed_separated, loose_by_last, same_last}
+use Rattle.markdown_plain.proofs.OpenListsLemmas.{loose_with_item, one_separated}
+use Rattle.markdown_plain.proofs.FramesLemmas.{ends_in_block, goes_on_last, last_goes_on, reached_parts}
+use Rattle.markdown_plain.proofs.FramesLemmas.{innermost_inner, with_lazy_last, all_go_on, inner_containers, by_test}
+use Rattle.markdown_plain.proofs.FramesLemmas.{inner_goes_lazily, on_reached}
+use Rattle.markdown_plain.proofs.LinedLeavesLemmas.{grown_to}
+use Rattle.markdown_plain.proofs.OpenTablesLemmas.{leaf_alone, without_built, without_open}
+use Rattle.markdown_plain.proofs.OpenedFramesLemmas.{around_touched, built_touched}
+use Rattle.markdown_plain.proofs.ClosedFramesLemmas.{last_items}
+use Rattle.markdown_plain.proofs.ReachedFramesLemmas.{line_goes_lazily, lazily_inside, nothing_goes_on}
+use Rattle.markdown_plain.proofs.ReachedFramesLemmas.{open_are_containers}
+use Rattle.markdown_plain.proofs.HeldLinesLemmas.{MakesNoTable, has_held}
 use Rattle.markdown_plain.proofs.BegunLemmas.{IsLeftOf, next_is_of}
-use Rattle.markdown_plain.proofs.FramesLemmas.{inner_containers, with_lazy_last}
-use Rattle.markdown_plain.proofs.LastBlocksLemmas.{lazily_inside, nothing_goes_on, open_are_containers}
-use Rattle.markdown_plain.proofs.LeafLinesLemmas.{before_line, leaf_leaves_off}
 use Rattle.markdown_plain.proofs.LeafTreesLemmas.{on_test}
-use Rattle.markdown_plain.proofs.ReachedLemmas.{by_test, inner_goes_lazily, on_reached, reached_parts}
+
+-- ---- what is open before a line
+
+-- the innermost container is no empty item where there is a block in it
+none_empty : (frames : List Frame) (inside : Forest Block) → is_nil inside ≡ false → EmptyKnown false frames inside
+none_empty [] inside some = tt
+none_empty (f ∷ []) inside some = by_kind f.block.kind
+  where
+    by_kind : (kind : Kind) → EmptyKnownIn false inside kind
+    by_kind (was.item_container indent) = sym some
+    by_kind (was.list_container marker) = tt
+    by_kind other = refl
+none_empty (f ∷ g ∷ frames) inside some = none_empty (g ∷ frames) inside some
+
+-- the open blocks are these containers, and a leaf in them or nothing
+pub record OpenParts (pass : Pass) (frames : List Frame) (now : Forest Block) : Type 0 where
+  pub containers : List OpenBlock
+  pub leaf : List OpenBlock
+  pub blocks : pass.placing.builder.blocks ≡ containers ++ leaf
+  pub without : without_leaf pass.placing.builder ≡ containers
+  pub alone : IsAtMostLeaf leaf
+  pub are : AreOpen pass.placing.builder.texts containers frames
+  pub nested : AreNested frames
+  pub empty : EmptyKnown (is_innermost leaf && pass.looseness.item_is_empty) frames now
+
+-- no leaf is open
+no_leaf_parts : (s : Source) (pass : Pass) (frames : List Frame) (inside now : Forest Block)
+    → IsBuilt s pass.placing.builder frames inside → IsLooseAs pass.looseness frames now → OpenParts pass frames now
+no_leaf_parts s pass frames inside now built loose = record {
+  containers = pass.placing.builder.blocks;
+  leaf = [];
+  blocks = sym (append-nil pass.placing.builder.blocks);
+  without = without_built s pass.placing.builder frames inside built;
+  alone = tt;
+  are = built.blocks;
+  nested = built.nested;
+  empty = loose.empty;
+}
+
+pub open_parts : (s : Source) (pass : Pass) (frames : List Frame) (inside : Forest Block) (last : Option Block)
+    → HasLast s pass frames inside last → IsLooseAs pass.looseness frames (with_last inside last)
+    → OpenParts pass frames (with_last inside last)
+open_parts s pass frames inside None has loose =
+    no_leaf_parts s pass frames inside inside has.0.stands.built loose
+open_parts s pass frames inside (Some b) has loose = by_held has.0 has.1 has.2
+  where
+    by_held : (held : Option (List SourceLine)) → MayEnd s pass frames inside b held → KnowsLast pass b held
+        → OpenParts pass frames (followed_by inside (leaf_block b))
+    by_held None may knows =
+        let is = may.unended.1 in
+        let view = pass.placing.builder in
+        record {
+          containers = is.outer;
+          leaf = is.block ∷ [];
+          blocks = is.blocks;
+          without = without_open s view frames inside b is;
+          alone = (leaf_alone s view frames inside b (not (leaves.is_table b.kind)) pass.leaf knows.0 is).0;
+          are = is.around.blocks;
+          nested = is.around.nested;
+          empty = none_empty frames (followed_by inside (leaf_block b)) (ends_in_block inside b nil);
+        }
+    by_held (Some sources) may knows =
+        no_leaf_parts s pass frames inside (followed_by inside (leaf_block b)) may.unended.built loose
+
+-- so it is known how far a line reaches
+pub before_line : (s : Source) (pass : Pass) (line : Line) (frames : List Frame) (inside : Forest Block)
+    (last : Option Block) (source : SourceLine) → Stands s pass frames inside last line.start
+    → IsSource pass line source → IsBefore pass line s frames (with_last inside last) source
+before_line s pass line frames inside last source stands is =
+    let parts = open_parts s pass frames inside last stands.unended stands.loose in
+    record {
+      containers = parts.containers;
+      leaf = parts.leaf;
+      blocks = parts.blocks;
+      alone = parts.alone;
+      are = parts.are;
+      empty = parts.empty;
+      syntax = ap (λ (source : Source). source.syntax) stands.source;
+      left = is.left;
+      stop = is.stop;
+      next = is.next;
+    }
+
+-- and with that, what the line is read by
+pub reached_by : (s : Source) (pass : Pass) (line : Line) (found : code.Reached) (before : Before)
+    (source : SourceLine) → Stands s pass before.frames before.inside before.last line.start
+    → IsSource pass line source
+    → ((frames : List Frame) (inside : Forest Block) (source : SourceLine)
+    → IsBefore pass line s frames inside source
+    → IsReached pass.placing.builder.text line source found (reached s frames inside source))
+    → IsReachedBy s pass line found before source
+reached_by s pass line found before source stands is reaches = record {
+  stands = stands;
+  is = is;
+  reaches = reaches before.frames (blocks_in before) source
+      (before_line s pass line before.frames before.inside before.last source stands is);
+}
+
+-- ---- whether a leaf goes on
+
+no_table : (s : Source) (l : SourceLine) (b : Block) (kind : Kind) → is_leaf kind ≡ true → table_with s l b kind ≡ None
+no_table s l b (was.paragraph_leaf lines) leaf = absurd (true≢false (sym leaf))
+no_table s l b other leaf = refl
+
+no_container : (s : Source) (l : SourceLine) (kind : Kind) → is_leaf kind ≡ true
+    → container_with s l nil (goes_on s nil) kind ≡ None
+no_container s l was.quote_container leaf = absurd (true≢false (sym leaf))
+no_container s l (was.alert_container kind) leaf = absurd (true≢false (sym leaf))
+no_container s l (was.list_container marker) leaf = absurd (true≢false (sym leaf))
+no_container s l (was.item_container indent) leaf = absurd (true≢false (sym leaf))
+no_container s l (was.footnote_container label) leaf = absurd (true≢false (sym leaf))
+no_container s l other leaf = refl
+
+one_goes_on : (s : Source) (l : SourceLine) (b : Block) (now : Kind) → is_leaf b.kind ≡ true
+    → leaf_with s l b.kind ≡ Some now → goes_on s (leaf_block b) l ≡ Some (leaf_block (grown_to b l.next now))
+unfolding goes_on
+one_goes_on s l b now leaf grown = rw (no_table s l b b.kind leaf, grown) refl
+
+one_leaves_off : (s : Source) (l : SourceLine) (b : Block) → is_leaf b.kind ≡ true
+    → leaf_with s l b.kind ≡ None → goes_on s (leaf_block b) l ≡ None
+unfolding goes_on
+one_leaves_off s l b leaf none = rw (no_table s l b b.kind leaf, none, no_container s l b.kind leaf) refl
+
+-- after other blocks
+leaf_goes_on : (s : Source) (l : SourceLine) (inside : Forest Block) (b : Block) (now : Kind)
+    → is_leaf b.kind ≡ true → leaf_with s l b.kind ≡ Some now
+    → goes_on s (followed_by inside (leaf_block b)) l ≡ Some (followed_by inside (leaf_block (grown_to b l.next now)))
+leaf_goes_on s l inside b now leaf grown =
+    goes_on_last s inside b nil l ∙ ap (option_map (followed_by inside)) (one_goes_on s l b now leaf grown)
+
+pub leaf_leaves_off : (s : Source) (l : SourceLine) (inside : Forest Block) (b : Block) → is_leaf b.kind ≡ true
+    → leaf_with s l b.kind ≡ None → goes_on s (followed_by inside (leaf_block b)) l ≡ None
+leaf_leaves_off s l inside b leaf none =
+    goes_on_last s inside b nil l ∙ ap (option_map (followed_by inside)) (one_leaves_off s l b leaf none)
+
+-- a line that reaches all containers makes the leaf grow
+pub leaf_grows : (s : Source) (frames : List Frame) (inside : Forest Block) (b : Block) (l : SourceLine) (now : Kind)
+    → AreContainers frames → AreNested frames
+    → (reached s frames (followed_by inside (leaf_block b)) l).inner ≡ []
+    → is_leaf b.kind ≡ true
+    → leaf_with s (reached s frames (followed_by inside (leaf_block b)) l).rest b.kind ≡ Some now
+    → with_line s (rebuilt frames (followed_by inside (leaf_block b))) l
+    ≡ rebuilt (map (touched l) frames) (followed_by inside
+    (leaf_block (grown_to b (reached s frames (followed_by inside (leaf_block b)) l).rest.next now)))
+leaf_grows s frames inside b l now are nested none leaf grown =
+    let before = followed_by inside (leaf_block b) in
+    let r = reached s frames before l in
+    let after = followed_by inside (leaf_block (grown_to b r.rest.next now)) in
+    let all : r.outer ≡ frames =
+    sym (append-nil r.outer) ∙ (ap (λ (fs : List Frame). r.outer ++ fs) (sym none)
+    ∙ reached_parts s frames before l) in
+    last_goes_on s frames before l are nested after
+    (ap (λ (fs : List Frame). goes_on s (rebuilt fs before) r.rest) none
+    ∙ leaf_goes_on s r.rest inside b now leaf grown)
+    ∙ ap (λ (fs : List Frame). rebuilt (map (touched l) fs) after) all
+
+-- ---- which lists are loose, with one leaf instead of another
+
+-- the same lists are loose around other blocks that are as separated
+separated_alike : (frames : List Frame) (one other : Forest Block) → are_separated one ≡ are_separated other
+    → are_separated (rebuilt frames one) ≡ are_separated (rebuilt frames other)
+separated_alike [] one other same = same
+separated_alike (f ∷ frames) one other same =
+    closed_separated f (rebuilt frames one) ∙ sym (closed_separated f (rebuilt frames other))
+
+loose_alike : (frames : List Frame) (one other : Forest Block) → are_separated one ≡ are_separated other
+    → is_loose one ≡ is_loose other → is_loose (rebuilt frames one) ≡ is_loose (rebuilt frames other)
+loose_alike [] one other apart same = same
+loose_alike (f ∷ frames) one other apart same =
+    same_last f (rebuilt frames one) (rebuilt frames other) (separated_alike frames one other apart)
+
+lists_alike : (frames : List Frame) (one other : Forest Block) → are_separated one ≡ are_separated other
+    → is_loose one ≡ is_loose other → are_loose frames one ≡ are_loose frames other
+lists_alike [] one other apart same = refl
+lists_alike (f ∷ frames) one other apart same =
+    ap (λ loose. if is_list f.block.kind then loose ∷ are_loose frames one else are_loose frames one)
+    (loose_alike frames one other apart same)
+    ∙ ap (λ flags. if is_list f.block.kind then is_loose (rebuilt frames other) ∷ flags else flags)
+    (lists_alike frames one other apart same)
+
+pub empty_alike : (empty : Bool) (frames : List Frame) (one other : Forest Block) → is_nil one ≡ is_nil other
+    → EmptyKnown empty frames one → EmptyKnown empty frames other
+empty_alike empty [] one other same known = tt
+empty_alike empty (f ∷ []) one other same known = by_kind f.block.kind known
+  where
+    by_kind : (kind : Kind) → EmptyKnownIn empty one kind → EmptyKnownIn empty other kind
+    by_kind (was.item_container indent) known = known ∙ same
+    by_kind (was.list_container marker) known = tt
+    by_kind otherwise known = known
+empty_alike empty (f ∷ g ∷ frames) one other same known = empty_alike empty (g ∷ frames) one other same known
+
+separated_end : (inside : Forest Block) (b : Block)
+    → are_separated (followed_by inside (leaf_block b))
+    ≡ (are_separated inside || (ends_blank false inside && not (is_blank_block b.kind)))
+separated_end inside b = closed_separated (record { before = inside; block = b }) nil
+
+loose_end : (inside : Forest Block) (b : Block)
+    → is_loose (followed_by inside (leaf_block b))
+    ≡ ((are_separated (followed_by inside (leaf_block b)) || hold_separated inside) || false)
+loose_end inside b = loose_by_last (record { before = inside; block = b }) nil
+
+-- a leaf with one more line
+pub loose_grown : (l : SourceLine) (now : Looseness) (frames : List Frame) (inside : Forest Block) (b c : Block)
+    → is_blank_block b.kind ≡ is_blank_block c.kind → IsLooseAs now frames (followed_by inside (leaf_block b))
+    → IsLooseAs now (map (touched l) frames) (followed_by inside (leaf_block c))
+loose_grown l now frames inside b c same loose =
+    let one = followed_by inside (leaf_block b) in
+    let other = followed_by inside (leaf_block c) in
+    let apart : are_separated one ≡ are_separated other =
+    rw (separated_end inside b, separated_end inside c, same) refl in
+    let alike : is_loose one ≡ is_loose other = rw (loose_end inside b, loose_end inside c, apart) refl in
+    same_touched l now frames other (record {
+      lists = loose.lists ∙ lists_alike frames one other apart alike;
+      empty = empty_alike now.item_is_empty frames one other
+          (ends_in_block inside b nil ∙ sym (ends_in_block inside c nil)) loose.empty;
+    })
+
+-- and with a blank line after them
+pub lists_before_blank : (frames : List Frame) (inside : Forest Block) (b : Block) → b.kind ≡ was.blank_line
+    → are_loose frames inside ≡ are_loose frames (followed_by inside (leaf_block b))
+lists_before_blank frames inside b blank =
+    let all : are_separated (followed_by inside (leaf_block b)) ≡ are_separated inside =
+    rw (separated_end inside b, blank, and-false (ends_blank false inside)) (or-false (are_separated inside)) in
+    lists_alike frames inside (followed_by inside (leaf_block b)) (sym all)
+    (sym (loose_end inside b ∙ (or-false (are_separated (followed_by inside (leaf_block b)) || hold_separated inside)
+    ∙ ap (λ s. s || hold_separated inside) all)))
+
+-- ---- an open leaf in containers that go on
+
+pub end_touched : (before : ℕ) (l : SourceLine) (frames : List Frame) (inside : Forest Block)
+    → placed_end before (map (touched l) frames) inside ≡ placed_end before frames inside
+end_touched before l [] inside = refl
+end_touched before l (f ∷ frames) inside = end_touched f.block.first l frames inside
+
+pub open_leaf_touched : (l : SourceLine) (s : Source) (view : BuilderView) (frames : List Frame)
+    (inside : Forest Block) (in_leaf : Bool) (b : Block) → IsOpenIn s view frames inside in_leaf b
+    → IsOpenIn s view (map (touched l) frames) inside in_leaf b
+open_leaf_touched l s view frames inside in_leaf b is = record {
+  outer = is.outer;
+  block = is.block;
+  levels = is.levels;
+  below = is.below;
+  around = built_touched l s _ frames inside is.around;
+  blocks = is.blocks;
+  leaf = is.leaf;
+  trees = is.trees;
+  shown = is.shown ∙ ap (λ around. shown_blocks s around (leaf_block b))
+      (sym (around_touched l in_no_item frames));
+  end = is.end ∙ sym (end_touched 0 l frames (followed_by inside (leaf_block b)));
+}
+
+-- ---- the definition
+
+-- a line that reaches a paragraph of these lines is text of it
+abbrev pub IsFurtherText : Source → SourceLine → List SourceLine → Type 0
+IsFurtherText s l lines =
+    paragraph_with s l lines (begins s paragraph.Reached l)
+    ≡ Some (was.paragraph_leaf (lines ++ further_line s l ∷ []))
+
+paragraph_grows : (s : Source) (l : SourceLine) (start first last : ℕ) (lines : List SourceLine)
+    → table_with s l (record { start = start; first = first; last = last; kind = was.paragraph_leaf lines })
+    (was.paragraph_leaf lines) ≡ None
+    → is_blank_rest l ≡ false → IsFurtherText s l lines
+    → goes_on s (leaf_block (record { start = start; first = first; last = last; kind = was.paragraph_leaf lines })) l
+    ≡ Some (leaf_block (with_text l (further_line s l) (record {
+      start = start;
+      first = first;
+      last = last;
+      kind = was.paragraph_leaf lines;
+    }) lines))
+unfolding goes_on
+paragraph_grows s l start first last lines untabled filled text =
+    ap (λ (made : Option (Forest Block)). option_or made (option_or
+    (option_map (λ kind. node (record { start = start; first = first; last = l.next; kind = kind }) nil nil)
+    (was.leaf_with s l (was.paragraph_leaf lines))) None)) untabled
+    ∙ rw (filled, text) refl
+
+paragraph_grows_lazily : (l : SourceLine) (start first last : ℕ) (lines : List SourceLine)
+    → with_lazy l (leaf_block (record { start = start; first = first; last = last; kind = was.paragraph_leaf lines }))
+    ≡ Some (leaf_block (with_text l (text_line l) (record {
+      start = start;
+      first = first;
+      last = last;
+      kind = was.paragraph_leaf lines;
+    }) lines))
+unfolding with_lazy
+paragraph_grows_lazily l start first last lines = refl
+
+-- a line is the next one of the last paragraph, which it reaches
+text_reaches : (s : Source) (l : SourceLine) (before : Forest Block) (b : Block) (lines : List SourceLine)
+    → ((b : Block) → table_with s l b (was.paragraph_leaf lines) ≡ None) → b.kind ≡ was.paragraph_leaf lines
+    → is_blank_rest l ≡ false → IsFurtherText s l lines
+    → with_line s (followed_by before (leaf_block b)) l
+    ≡ followed_by before (leaf_block (with_text l (further_line s l) b lines))
+text_reaches s l before b lines untabled is filled text =
+    let same = ap (λ kind. goes_on s (leaf_block (record b { kind = kind })) l) is
+    ∙ paragraph_grows s l b.start b.first b.last lines (untabled (record b { kind = was.paragraph_leaf lines })) filled
+    text in
+    ap (λ grown. unwrap_or grown (followed_by (followed_by before (leaf_block b)) (was.line_block s l)))
+    (goes_on_last s before b nil l ∙ ap (option_map (followed_by before)) same)
+
+-- or continues it lazily
+text_continues : (l : SourceLine) (before : Forest Block) (b : Block) (lines : List SourceLine)
+    → b.kind ≡ was.paragraph_leaf lines
+    → with_lazy l (followed_by before (leaf_block b))
+    ≡ Some (followed_by before (leaf_block (with_text l (text_line l) b lines)))
+text_continues l before b lines is =
+    with_lazy_last before b nil l
+    ∙ ap (option_map (followed_by before)) (ap (λ kind. with_lazy l (leaf_block (record b { kind = kind }))) is
+    ∙ paragraph_grows_lazily l b.start b.first b.last lines)
+
+-- ---- what is known of lists
+
+some_there : (before : Forest Block) (b : Block) → is_nil (followed_by before (leaf_block b)) ≡ false
+some_there nil b = refl
+some_there (node a below after) b = refl
+
+-- a block that is no item is not in a list
+in_no_list : (in_list : Bool) (before : Forest Block) (b : Block) → is_item b.kind ≡ false
+    → is_blank_block b.kind ≡ false → AreItemsInLists in_list (followed_by before (leaf_block b)) → in_list ≡ false
+in_no_list in_list nil b item filled are = sym (are.0 filled) ∙ item
+in_no_list in_list (node a below after) b item filled are = in_no_list in_list after b item filled are.2
+
+pub around_text : (in_list : Bool) (frames : List Frame) (inside : Forest Block) (b : Block) → is_item b.kind ≡ false
+    → is_blank_block b.kind ≡ false → AreItemsInLists in_list (rebuilt frames (followed_by inside (leaf_block b)))
+    → innermost_is is_list frames ≡ false
+around_text in_list [] inside b item filled are = refl
+around_text in_list (f ∷ []) inside b item filled are =
+    in_no_list (is_list f.block.kind) inside b item filled
+    (last_items in_list f.before f.block (followed_by inside (leaf_block b)) are)
+around_text in_list (f ∷ g ∷ frames) inside b item filled are =
+    innermost_inner is_list f g frames
+    ∙ around_text (is_list f.block.kind) (g ∷ frames) inside b item filled
+    (last_items in_list f.before f.block (rebuilt (g ∷ frames) (followed_by inside (leaf_block b))) are)
+
+-- lists are loose or not with one leaf as with another
+same_separated : (frames : List Frame) (f : Frame) (inside now : Forest Block)
+    → are_separated (rebuilt (f ∷ frames) inside) ≡ are_separated (rebuilt (f ∷ frames) now)
+same_separated frames f inside now =
+    closed_separated f (rebuilt frames inside) ∙ sym (closed_separated f (rebuilt frames now))
+
+module _ (inside : Forest Block) (b c : Block) (filled : is_blank_block b.kind ≡ false)
+    (also : is_blank_block c.kind ≡ false) where
+  loose_of_one : (frames : List Frame)
+      → is_loose (rebuilt frames (followed_by inside (leaf_block b)))
+      ≡ is_loose (rebuilt frames (followed_by inside (leaf_block c)))
+  loose_of_one [] = loose_with_item inside b filled ∙ sym (loose_with_item inside c also)
+  loose_of_one (f ∷ []) =
+      same_last f (followed_by inside (leaf_block b)) (followed_by inside (leaf_block c))
+      (one_separated inside (leaf_block b) (filled, refl) ∙ sym (one_separated inside (leaf_block c) (also, refl)))
+  loose_of_one (f ∷ g ∷ frames) =
+      same_last f (rebuilt (g ∷ frames) (followed_by inside (leaf_block b)))
+      (rebuilt (g ∷ frames) (followed_by inside (leaf_block c)))
+      (same_separated frames g (followed_by inside (leaf_block b)) (followed_by inside (leaf_block c)))
+
+  lists_of_one : (frames : List Frame)
+      → are_loose frames (followed_by inside (leaf_block b)) ≡ are_loose frames (followed_by inside (leaf_block c))
+  lists_of_one [] = refl
+  lists_of_one (f ∷ frames) =
+      ap (λ loose. if is_list f.block.kind then loose ∷ are_loose frames (followed_by inside (leaf_block b))
+      else are_loose frames (followed_by inside (leaf_block b))) (loose_of_one frames)
+      ∙ ap (λ flags. if is_list f.block.kind
+      then is_loose (rebuilt frames (followed_by inside (leaf_block c))) ∷ flags else flags) (lists_of_one frames)
+
+-- what is remembered of lists is so with another leaf
+pub loose_as_leaf : (now : Looseness) (frames : List Frame) (inside : Forest Block) (b c : Block)
+    → is_blank_block b.kind ≡ false → is_blank_block c.kind ≡ false
+    → IsLooseAs now frames (followed_by inside (leaf_block b))
+    → IsLooseAs now frames (followed_by inside (leaf_block c))
+loose_as_leaf now frames inside b c filled also loose = record {
+  lists = loose.lists ∙ lists_of_one inside b c filled also frames;
+  empty = empty_alike now.item_is_empty frames (followed_by inside (leaf_block b)) (followed_by inside (leaf_block c))
+      (some_there inside b ∙ sym (some_there inside c)) loose.empty;
+}
+
+known_filled : (empty : Bool) (frames : List Frame) (inside : Forest Block) → empty ≡ false → is_nil inside ≡ false
+    → EmptyKnown empty frames inside
+known_filled empty [] inside is some = tt
+known_filled empty (f ∷ []) inside is some = by_kind f.block.kind
+  where
+    by_kind : (kind : Kind) → EmptyKnownIn empty inside kind
+    by_kind (was.item_container indent) = is ∙ sym some
+    by_kind (was.list_container marker) = tt
+    by_kind other = is
+known_filled empty (f ∷ g ∷ frames) inside is some = known_filled empty (g ∷ frames) inside is some
+
+-- and with a leaf that has just begun
+pub loose_with_leaf : (now : Looseness) (frames : List Frame) (inside : Forest Block) (b : Block)
+    → is_blank_block b.kind ≡ false → IsLooseBefore now frames inside
+    → IsLooseAs now frames (followed_by inside (leaf_block b))
+loose_with_leaf now frames inside b filled loose = record {
+  lists = loose.lists (leaf_block b) (filled, refl);
+  empty = known_filled now.item_is_empty frames (followed_by inside (leaf_block b)) loose.empty (some_there inside b);
+}
+
+-- ---- the containers around a paragraph
+
+-- the next line of a paragraph of these lines, which it reaches with all open containers, or continues lazily
+pub data GoesAs (s : Source) (r : Reached) (lines : List SourceLine) : Type 0 where
+  reaches : r.inner ≡ [] → IsFurtherText s r.rest lines → GoesAs s r lines
+  continues : (f : Frame) (others : List Frame) → r.inner ≡ f ∷ others
+      → begins s paragraph.Lazy r.rest ≡ line.begins_text → GoesAs s r lines
+
+pub paragraph_line : (s : Source) (frames : List Frame) (inside : Forest Block) (b : Block) (lines : List SourceLine)
+    (l : SourceLine) → MakesNoTable s (reached s frames (followed_by inside (leaf_block b)) l) lines
+    → AreContainers frames → AreNested frames
+    → AreItemsInLists false (rebuilt frames (followed_by inside (leaf_block b)))
+    → b.kind ≡ was.paragraph_leaf lines
+    → is_blank_rest (reached s frames (followed_by inside (leaf_block b)) l).rest ≡ false
+    → GoesAs s (reached s frames (followed_by inside (leaf_block b)) l) lines
+    → with_line s (rebuilt frames (followed_by inside (leaf_block b))) l
+    ≡ rebuilt (map (touched l) frames) (followed_by inside (leaf_block
+    (with_text (reached s frames (followed_by inside (leaf_block b)) l).rest
+    (next_line s (reached s frames (followed_by inside (leaf_block b)) l)) b lines)))
+paragraph_line s frames inside b lines l untabled are nested items is filled (reaches all text) =
+    let r = reached s frames (followed_by inside (leaf_block b)) l in
+    let here = ap (λ (fs : List Frame). if are_none fs then further_line s r.rest else text_line r.rest) all in
+    all_go_on s frames (followed_by inside (leaf_block b)) l are nested all
+    (around_text false frames inside b (ap is_item is) (ap is_blank_block is) items)
+    ∙ (ap (rebuilt (map (touched l) frames))
+    (text_reaches s r.rest inside b lines (untabled (ap are_none all)) is filled text)
+    ∙ ap (λ (next : SourceLine). rebuilt (map (touched l) frames) (followed_by inside (leaf_block
+    (with_text r.rest next b lines)))) (sym here))
+paragraph_line s frames inside b lines l untabled are nested items is filled (continues f others some text) =
+    let r = reached s frames (followed_by inside (leaf_block b)) l in
+    let here = ap (λ (fs : List Frame). if are_none fs then further_line s r.rest else text_line r.rest) some in
+    line_goes_lazily s frames (followed_by inside (leaf_block b)) l are nested f others
+    (followed_by inside (leaf_block (with_text r.rest (text_line r.rest) b lines))) some filled (ap is_text text)
+    (text_continues r.rest inside b lines is)
+    ∙ ap (λ (next : SourceLine). rebuilt (map (touched l) frames) (followed_by inside (leaf_block
+    (with_text r.rest next b lines)))) (sym here)
 
 -- ---- where it begins
 

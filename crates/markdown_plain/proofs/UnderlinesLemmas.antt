@@ -7,6 +7,9 @@ use Rattle.std.proofs.lemmas.Option.{none-some}
 use Rattle.std.specs.Prelude.{slice_range, if◌then◌else◌, unwrap_or}
 use Rattle.std.specs.Option.{option_map, option_or}
 use Rattle.std.specs.Str.{IsCharBoundary, IsUtf8}
+use Rattle.std.proofs.Math.Bool.{and-false}
+use Rattle.std.proofs.lemmas.Bool.Decides.{nat_tests}
+use Rattle.std.specs.List.{list_all, prefix_len}
 use Rattle.markdown_base.specs.Forest.{Forest, nil, node}
 use Rattle.markdown_base.specs.declared.tag.HeadingLevel.{HeadingLevel}
 use Rattle.markdown_builder.specs.BuilderView.{BuilderView}
@@ -41,42 +44,33 @@ use Rattle.markdown_plain.specs.ReachedLines.{reached_of}
 use Rattle.markdown_plain.specs.Settled.{BlanksKnown, IsLooseAs, QuotesEnd}
 use Rattle.markdown_plain.specs.Standing.{PlacesFor, with_last}
 use Rattle.markdown_plain.specs.TextLines.{IsContentAt, held_line}
-use Rattle.markdown_plain.proofs.AddedLinesLemmas.{has_held, no_leaf_open}
-use Rattle.markdown_plain.proofs.AddedTextLemmas.{IsFurtherText, around_text, loose_as_leaf}
-use Rattle.markdown_plain.proofs.BegunBlocksLemmas.{source_kept}
-use Rattle.markdown_plain.proofs.BegunLeavesLemmas.{no_paragraph}
-use Rattle.markdown_plain.proofs.BlankStandingLemmas.{next_after, none_inside}
-use Rattle.markdown_plain.proofs.BlanksKnownLemmas.{same_touched}
-use Rattle.markdown_plain.proofs.RememberedTextLemmas.{makes_no_table, remembered_kind}
 use Rattle.markdown_plain.specs.TableHeads.{IsUntabled}
-use Rattle.markdown_plain.proofs.FoundPlacesLemmas.{left_content}
-use Rattle.markdown_plain.proofs.FramesLemmas.{goes_on_last}
-use Rattle.markdown_plain.proofs.GrownLeavesLemmas.{placed_touched}
-use Rattle.markdown_plain.proofs.LineBeginningsLemmas.{BeginsInside, after_inside}
-use Rattle.markdown_plain.proofs.ItemsInListsLemmas.{line_keeps}
-use Rattle.markdown_plain.proofs.LastBlocksLemmas.{leaf_is_over, open_are_containers}
-use Rattle.markdown_plain.proofs.LineBeginningsLemmas.{IfFound, any_holds, begins_holds, leaves_hold}
-use Rattle.markdown_plain.proofs.LooseFramesLemmas.{ends_more}
-use Rattle.markdown_plain.proofs.PlacedTextLemmas.{text_added}
-use Rattle.markdown_plain.proofs.ReachedLemmas.{all_go_on, reached_next}
-use Rattle.markdown_plain.proofs.ReadyPlacesLemmas.{next_between, ready_last}
-use Rattle.markdown_plain.proofs.ReadyTextsLemmas.{again_ready}
 use Rattle.markdown_plain.specs.PassSteps.{AddsText}
-use Rattle.markdown_plain.proofs.TouchedFramesLemmas.{earlier_touched, quotes_touched}
-use Rattle.std.proofs.Math.Bool.{and-false}
-use Rattle.std.proofs.lemmas.Bool.Decides.{nat_tests}
-use Rattle.std.specs.List.{list_all, prefix_len}
 use Rattle.markdown_lines.specs.ListMarkers.{if_it_stands, marker_of}
 use Rattle.markdown_block_rules.proofs.BlockBeginningsLemmas.{either}
-use Rattle.markdown_plain.proofs.BegunLemmas.{IsLeftOf, left_from_is_of, space_is_of}
-use Rattle.markdown_plain.proofs.ReachedFramesLemmas.{space_alike}
 use Rattle.markdown_lines.specs.BlockBeginnings as line
 use Rattle.markdown_lines.specs.declared.block_start.Before as block_start
 use Rattle.markdown_lines.specs.declared.block_start.Before.TheVariants as paragraph
 use Rattle.markdown_lines.specs.declared.block_start.BlockStart.TheVariants as start
 use Rattle.markdown_block_rules.specs.BlockGrowth as was
-use Rattle.markdown_plain.proofs.AddedTextLemmas as added
+use Rattle.markdown_plain.proofs.TextReachedLemmas as added
 use Rattle.markdown_plain.proofs.ClosableLemmas as held
+use Rattle.markdown_plain.proofs.HeldLinesLemmas.{has_held, no_leaf_open, makes_no_table, remembered_kind}
+use Rattle.markdown_plain.proofs.TextReachedLemmas.{IsFurtherText, around_text, loose_as_leaf}
+use Rattle.markdown_plain.proofs.FoundBlocksLemmas.{source_kept}
+use Rattle.markdown_plain.proofs.BegunLeavesLemmas.{no_paragraph}
+use Rattle.markdown_plain.proofs.BlankStandingLemmas.{next_after, none_inside}
+use Rattle.markdown_plain.proofs.OpenListsLemmas.{same_touched, ends_more}
+use Rattle.markdown_plain.proofs.FoundPlacesLemmas.{left_content}
+use Rattle.markdown_plain.proofs.FramesLemmas.{goes_on_last, all_go_on, reached_next}
+use Rattle.markdown_plain.proofs.GrownLeavesLemmas.{placed_touched}
+use Rattle.markdown_plain.proofs.BegunLemmas.{BeginsInside, after_inside, IfFound, any_holds, begins_holds, leaves_hold}
+use Rattle.markdown_plain.proofs.BegunLemmas.{IsLeftOf, left_from_is_of, space_is_of}
+use Rattle.markdown_plain.proofs.OpenedFramesLemmas.{line_keeps, earlier_touched, quotes_touched}
+use Rattle.markdown_plain.proofs.ReachedFramesLemmas.{leaf_is_over, open_are_containers, space_alike}
+use Rattle.markdown_plain.proofs.TurnsLemmas.{text_added}
+use Rattle.markdown_plain.proofs.ReadyLinesLemmas.{next_between, ready_last}
+use Rattle.markdown_plain.proofs.ReadyTextsLemmas.{again_ready}
 
 -- ---- the bytes of a line that looks like an underline
 

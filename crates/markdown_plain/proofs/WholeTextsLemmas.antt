@@ -1,14 +1,13 @@
--- The blocks of a whole text, line by line: what the pass stands for after each of its lines, and once all blocks are
--- closed.
-use Rattle.std.proofs.Common.{◌≡◌, ℕ, ◌<◌, ◌≤◌, List, [], ◌∷◌, None}
-use Rattle.std.proofs.Common.{drop, length, arith, refl, sym, ap, ◌∙◌, subst}
+-- The blocks of a whole text, line by line: what the pass stands for after each of its lines, and the block result
+-- once all blocks are closed.
+use Rattle.std.proofs.Common.{◌≡◌, ℕ, ◌<◌, ◌≤◌, List, [], ◌∷◌, None, drop, length, arith, refl, sym, ap, ◌∙◌, subst}
 use Rattle.std.specs.Prelude.{slice_range}
 use Rattle.std.specs.List.{fold}
 use Rattle.std.specs.Str.{IsCharBoundary, IsUtf8}
 use Rattle.std.proofs.lemmas.Str.{IsCharBoundary-start}
 use Rattle.markdown_base.proofs.ByteListLemmas.{part_length}
-use Rattle.markdown_base.specs.Forest.{Forest, nil}
-use Rattle.markdown_builder.specs.BuilderView.{BuilderView, nothing_made}
+use Rattle.markdown_base.specs.Forest.{Forest, nil, relabelled}
+use Rattle.markdown_builder.specs.BuilderView.{BuilderView, nothing_made, HasParts, parts_of}
 use Rattle.markdown_builder.specs.declared.open_block.OpenBlock.{OpenBlock}
 use Rattle.markdown_base.specs.Source.{Source}
 use Rattle.markdown_lines.specs.Lines.{AllPass, IsLineFrom, is_in_blank_line}
@@ -22,14 +21,24 @@ use Rattle.markdown_block_rules.specs.BlockRules.{footnotes_in, shown_blocks}
 use Rattle.markdown_plain.specs.declared.pass.Pass.{Pass}
 use Rattle.markdown_plain.specs.Closable.{AreClosable, AreContainers, IsClosable, IsReady}
 use Rattle.markdown_plain.specs.PassSteps.{ClosesDown}
-use Rattle.markdown_plain.proofs.RoomLemmas.{holds_last}
 use Rattle.markdown_plain.specs.Readable.{HasNothing, MayReadLine, MayReadText, ReadsLine}
 use Rattle.markdown_plain.specs.Standing.{IsSource, Stands, StandsFor}
 use Rattle.markdown_plain.specs.ReachedLines.{Before, blocks_before}
 use Rattle.markdown_plain.specs.Settled.{AreOpen, IsBuilt}
 use Rattle.markdown_plain.specs.TableRows.{IsCounted}
+use Rattle.markdown_base.specs.BlockTree.{tree_of}
+use Rattle.markdown_base.specs.Coverage.{Covers}
+use Rattle.markdown_base.specs.WellFormed.{IsWellFormed}
+use Rattle.markdown_base.specs.declared.block_parts.BlockParts.{BlockParts}
+use Rattle.markdown_base.specs.declared.item.Item.{Item}
+use Rattle.markdown_base.specs.declared.node.Node.{Node}
+use Rattle.markdown_builder.specs.HeadingsHoldInline.{HeadingsHoldInline}
+use Rattle.markdown_builder.specs.Tightness.{TightInTightLists}
+use Rattle.markdown_builder.specs.Shown.{Shown, shown_trees}
+use Rattle.markdown_block_rules.specs.BlockResults.{IsBlockResult}
+use Rattle.markdown_plain.proofs.ClosingDownLemmas.{holds_last}
 use Rattle.markdown_plain.proofs.BegunLeavesLemmas.{no_paragraph}
-use Rattle.markdown_plain.proofs.LastBlocksLemmas.{nothing_is_over}
+use Rattle.markdown_plain.proofs.ReachedFramesLemmas.{nothing_is_over}
 use Rattle.markdown_plain.proofs.ReadyLinesLemmas.{read_ready, white_at_end}
 
 -- ---- one line
@@ -239,3 +248,25 @@ none_open s view built = nothing view.blocks built.blocks
     nothing : (blocks : List OpenBlock) → AreOpen view.texts blocks [] → blocks ≡ []
     nothing [] are = refl
     nothing (block ∷ blocks) are = absurd are
+
+-- ---- the block result
+
+first_same : (a b : Forest Shown) → a ∷ [] ≡ b ∷ [] → a ≡ b
+first_same a b same = cc (same)
+
+pub result_of : (s : Source) (view : BuilderView) (nodes : List (Node Item)) (parts : BlockParts)
+    → IsBuilt s view [] (blocks_of s)
+    → view.levels ≡ shown_trees (parts_of view) (relabelled (λ n. n.item) (tree_of nodes)) ∷ []
+    → HasParts view parts → view.text ≡ s.text → IsWellFormed view.text nodes parts → Covers view.text nodes parts
+    → TightInTightLists nodes → HeadingsHoldInline (tree_of nodes) → IsBlockResult s nodes parts
+result_of s view nodes parts built tree has text formed covered tight headings =
+    let all = all_built s view built in
+    record {
+      tree = rw (has.texts, has.headings, has.alignments) (sym (first_same _ _ (sym all.levels ∙ tree)));
+      definitions = has.definitions ∙ all.definitions;
+      footnotes = has.footnotes ∙ all.footnotes;
+      well_formed = subst (λ t. IsWellFormed t nodes parts) text formed;
+      covers = subst (λ t. Covers t nodes parts) text covered;
+      tight = tight;
+      headings_hold_inline = headings;
+    }

@@ -67,7 +67,7 @@ fn add_codes(placing: &mut Placing<'_>, lines: &[HeldLine]) -> Result<(), AllocE
 }
 
 /// Opens a heading at the current byte offset, with the attributes that stand between braces.
-#[tactic(auto, using(crate::proofs::OpenBlocksLemmas::outer_of_opened))]
+#[tactic(auto, using(crate::proofs::LeafTreesLemmas::outer_of_opened))]
 pub fn open_heading(
     alloc: Global,
     placing: &mut Placing<'_>,
@@ -193,7 +193,7 @@ impl<'a> Pass<'a> {
     }
 
     /// Opens metadata of a kind with a line.
-    #[tactic(auto, using(crate::proofs::OpenBlocksLemmas::outer_of_opened))]
+    #[tactic(auto, using(crate::proofs::LeafTreesLemmas::outer_of_opened))]
     pub fn open_metadata(&mut self, kind: MetadataBlockKind, line: Line) -> Result<(), AllocError>
         requires { MayOpenLeaf self.old.placing.builder line.start line.next }
         ensures text { IfOk result (λ _. self.new.placing.builder.text

@@ -62,7 +62,7 @@ use std::alloc::{AllocError, Global};
 
 /// Takes the definition at the beginning of a paragraph's lines, up to the end of its last line, and returns its number
 /// of lines: 0 where there is none. A line of an alert's marker, of which nothing is left, is taken too.
-#[tactic(auto, using(crate::proofs::ParagraphsLemmas::none_taken, crate::proofs::DividedLemmas::takes_nothing))]
+#[tactic(auto, using(crate::proofs::ClosableLemmas::none_taken, crate::proofs::DefinitionsLemmas::takes_nothing))]
 fn take_definition<'a>(
     alloc: Global,
     placing: &mut Placing<'a>,

@@ -197,7 +197,7 @@ pub fn innermost(placing: &Placing<'_>) -> Option<ItemBody>
 }
 
 /// Closes the innermost open block, which is a list, loose or tight.
-#[tactic(auto, using(crate::proofs::OpenBlocksLemmas::outer_of_opened))]
+#[tactic(auto, using(crate::proofs::LeafTreesLemmas::outer_of_opened))]
 fn close_list(placing: &mut Placing<'_>, character: u8, first: u64, loose: bool)
     requires outside { placing.old.builder.leaf ≡ false }
     requires some { placing.old.builder.blocks ≡ [] → ⊥ }

@@ -375,7 +375,7 @@ impl<'a> Placing<'a> {
     }
 
     /// Closes the innermost open block, which ends at the current byte offset.
-    #[tactic(auto, using(crate::proofs::OpenBlocksLemmas::outer_of_these))]
+    #[tactic(auto, using(crate::proofs::LeafTreesLemmas::outer_of_these))]
     #[inline(always)]
     fn close_innermost(&mut self)
         requires some { self.old.builder.blocks ≡ [] → ⊥ }

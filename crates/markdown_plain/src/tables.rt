@@ -110,7 +110,7 @@ fn place_cell(
 }
 
 /// Places an empty cell at a byte offset.
-#[tactic(auto, using(crate::proofs::OpenBlocksLemmas::outer_of_opened))]
+#[tactic(auto, using(crate::proofs::LeafTreesLemmas::outer_of_opened))]
 fn place_empty_cell(placing: &mut Placing<'_>, at: usize) -> Result<(), AllocError>
     requires { MayAddCell placing.old.builder at }
     ensures { IfOk result (λ _. PutsTrees placing.old.builder placing.new.builder at
@@ -124,7 +124,7 @@ fn place_empty_cell(placing: &mut Placing<'_>, at: usize) -> Result<(), AllocErr
 
 /// Places a line as a row of as many cells as the open table has columns: those beyond them are in no item, and those that
 /// it lacks are empty ones at its end. Returns how many it does not lack.
-#[tactic(auto, using(crate::proofs::OpenBlocksLemmas::outer_of_opened))]
+#[tactic(auto, using(crate::proofs::LeafTreesLemmas::outer_of_opened))]
 fn place_row(
     placing: &mut Placing<'_>,
     row: ItemBody,

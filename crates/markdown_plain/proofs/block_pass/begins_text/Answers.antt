@@ -3,7 +3,7 @@ use Rattle.std.proofs.Common.{◌≡◌, ◌<◌, Some, arith, false, rules, tru
 use Rattle.std.specs.Prelude.{slice_get}
 use Rattle.std.specs.Char.{is_ascii_alphabetic}
 use Rattle.markdown_lines.specs.Lines.{is_space_or_tab}
-use Rattle.markdown_plain.proofs.TextLinesLemmas.{letter_begins_none, letter_no_space, shows_text}
+use Rattle.markdown_plain.proofs.ReadyTextsLemmas.{letter_begins_none, letter_no_space, shows_text}
 use Rattle.markdown_plain.proofs.block_pass.begins_text.Goals as goal
 
 pub returns-in-Some : goal.returns-in-Some

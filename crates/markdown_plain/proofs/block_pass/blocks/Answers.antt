@@ -1,5 +1,5 @@
 -- What was built is the block result of the text.
-use Rattle.markdown_plain.proofs.BlockResultsLemmas.{result_of}
+use Rattle.markdown_plain.proofs.WholeTextsLemmas.{result_of}
 use Rattle.markdown_plain.proofs.block_pass.blocks.Goals as goal
 
 pub returns : goal.returns

@@ -3,9 +3,9 @@ use Rattle.std.proofs.Common.{◌≡◌, ◌+◌, ◌∙◌, drop, refl, sym, ap
 use Rattle.markdown_lines.specs.Positions.{left_from}
 use Rattle.markdown_plain.specs.Containers.{Reach, reach_from, reach_of}
 use Rattle.markdown_plain.specs.Stretches.{starts_after}
-use Rattle.markdown_plain.proofs.ContainersLemmas.{none_left, next_is_leaf, next_ends, next_goes_on}
-use Rattle.markdown_plain.proofs.StretchesLemmas.{AtNextStretch, ahead_deep, past_stretch_at, starts_ahead}
-use Rattle.markdown_plain.proofs.StretchesLemmas.{starts_at_first, starts_past_any}
+use Rattle.markdown_plain.proofs.ContainersLemmas.{none_left, next_is_leaf, next_ends, next_goes_on, AtNextStretch}
+use Rattle.markdown_plain.proofs.ContainersLemmas.{ahead_deep, past_stretch_at, starts_ahead, starts_at_first}
+use Rattle.markdown_plain.proofs.ContainersLemmas.{starts_past_any}
 use Rattle.markdown_plain.proofs.containers.reach_blocks.Goals as goal
 
 pub blocks-2-init : goal.blocks-2-init

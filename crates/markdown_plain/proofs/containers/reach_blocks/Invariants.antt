@@ -2,7 +2,7 @@
 -- theirs.
 use Rattle.std.proofs.Common.{◌≡◌, ◌≤◌, ◌-◌, true, drop, length}
 use Rattle.markdown_plain.specs.Containers.{reach_from, reach_of, reach_start, whole_line}
-use Rattle.markdown_plain.proofs.StretchesLemmas.{starts_ahead}
+use Rattle.markdown_plain.proofs.ContainersLemmas.{starts_ahead}
 use Rattle.markdown_plain.proofs.containers.reach_blocks.Given as goal
 
 abbrev pub invariant-blocks-2 : goal.invariant-blocks-2

@@ -5,7 +5,7 @@ use Rattle.std.proofs.lemmas.List.{take_more}
 use Rattle.std.proofs.lemmas.Option.{slice_get-get_or}
 use Rattle.markdown_base.specs.declared.item.ItemBody.TheVariants as body
 use Rattle.markdown_plain.specs.LeafTrees.{AddsLines}
-use Rattle.markdown_plain.proofs.FittingLemmas.{comes_next, goes_on_fits}
+use Rattle.markdown_plain.proofs.ReadyLinesLemmas.{comes_next, goes_on_fits}
 use Rattle.markdown_plain.proofs.LeafTreesLemmas.{adds_more, adds_none}
 use Rattle.markdown_plain.proofs.leaves.add_codes.Goals as goal
 

@@ -9,11 +9,11 @@ use Rattle.markdown_lines.specs.LineBreaks.{IsLineBreak}
 use Rattle.markdown_lines.specs.declared.held_line.HeldLine.{HeldLine}
 use Rattle.markdown_lines.specs.declared.line_break.LineBreak.{LineBreak}
 use Rattle.markdown_base.specs.Source.{Source}
-use Rattle.markdown_plain.proofs.ParagraphLinesLemmas.{empty_line, line_and_break}
+use Rattle.markdown_plain.proofs.ParagraphTreesLemmas.{empty_line, line_and_break, appends_twice, item_appends}
+use Rattle.markdown_plain.proofs.ParagraphTreesLemmas.{step_appends}
 use Rattle.markdown_plain.specs.Closable.{IsInText}
 use Rattle.markdown_plain.proofs.ClosableLemmas.{IsBreakIn, ahead_of, break_in, inside_leaf, still_open}
-use Rattle.markdown_plain.proofs.FittingLemmas.{may_step}
-use Rattle.markdown_plain.proofs.ParagraphTreesLemmas.{appends_twice, item_appends, step_appends}
+use Rattle.markdown_plain.proofs.ReadyLinesLemmas.{may_step}
 use Rattle.markdown_plain.proofs.paragraph.add_broken_line.Goals as goal
 
 pub returns-then-line-clause-items : goal.returns-then-line-clause-items

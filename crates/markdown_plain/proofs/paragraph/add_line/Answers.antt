@@ -7,10 +7,9 @@ use Rattle.markdown_lines.specs.declared.held_line.HeldLine.{HeldLine}
 use Rattle.markdown_base.specs.Source.{Source}
 use Rattle.markdown_lines.specs.SourceLines.{SourceLine}
 use Rattle.markdown_block_rules.specs.BlockRules.{cut_before_braces}
-use Rattle.markdown_plain.proofs.ParagraphLinesLemmas.{cut_line, open_after_task}
-use Rattle.markdown_plain.proofs.DividedLemmas.{as_many}
-use Rattle.markdown_plain.proofs.ParagraphTreesLemmas.{appends_twice, broken_line_left, got, last_line_left}
-use Rattle.markdown_plain.proofs.ParagraphTreesLemmas.{none_behind, some_behind, takes_line}
+use Rattle.markdown_plain.proofs.ParagraphTreesLemmas.{cut_line, open_after_task, appends_twice, broken_line_left, got}
+use Rattle.markdown_plain.proofs.ParagraphTreesLemmas.{last_line_left, none_behind, some_behind, takes_line}
+use Rattle.markdown_plain.proofs.DefinitionsLemmas.{as_many}
 use Rattle.markdown_plain.specs.LeafTrees.{Appends}
 use Rattle.markdown_plain.specs.HeldSources.{IsTextLine}
 use Rattle.markdown_plain.specs.ParagraphItems.{IsLeft, after_task}

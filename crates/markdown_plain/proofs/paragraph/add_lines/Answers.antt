@@ -3,9 +3,8 @@ use Rattle.std.proofs.Common.{◌≡◌, ◌+◌, ◌-◌, ◌∙◌, ap, sym, s
 use Rattle.std.specs.Option.{option_map_or}
 use Rattle.std.specs.Prelude.{◌==◌, if◌then◌else◌, slice_get}
 use Rattle.std.proofs.lemmas.Bool.Decides.{nat_tests}
-use Rattle.markdown_plain.proofs.ParagraphLinesLemmas.{on_false}
-use Rattle.markdown_plain.proofs.DividedLemmas.{as_many}
-use Rattle.markdown_plain.proofs.ParagraphTreesLemmas.{appends_twice, got, none_behind, nothing_left}
+use Rattle.markdown_plain.proofs.ParagraphTreesLemmas.{on_false, appends_twice, got, none_behind, nothing_left}
+use Rattle.markdown_plain.proofs.DefinitionsLemmas.{as_many}
 use Rattle.markdown_plain.proofs.paragraph.add_lines.Goals.{then-number-from, else-number-from}
 use Rattle.markdown_builder.specs.BuilderView.{BuilderView}
 use Rattle.markdown_plain.specs.LeafTrees.{Appends}

@@ -6,9 +6,8 @@ use Rattle.std.specs.Prelude.{Some, slice_get}
 use Rattle.markdown_lines.specs.HeldDefinitions.{IsFirstDefinition}
 use Rattle.markdown_lines.specs.SourceLines.{SourceLine}
 use Rattle.markdown_plain.specs.HeldSources.{IsParagraph}
-use Rattle.markdown_plain.proofs.DividedLemmas.{IsLeftOf, left_after, left_all, left_empty, left_none}
-use Rattle.markdown_plain.proofs.DividedLemmas.{left_other}
-use Rattle.markdown_plain.proofs.DividedLemmas.{read_next}
+use Rattle.markdown_plain.proofs.DefinitionsLemmas.{IsLeftOf, left_after, left_all, left_empty, left_none, left_other}
+use Rattle.markdown_plain.proofs.DefinitionsLemmas.{read_next}
 use Rattle.markdown_plain.proofs.paragraph.are_definitions.Goals.{In-Some, In_ok-found}
 use Rattle.markdown_plain.proofs.paragraph.are_definitions.Goals as goal
 

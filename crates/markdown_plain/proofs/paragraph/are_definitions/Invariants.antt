@@ -2,7 +2,7 @@
 use Rattle.std.proofs.Common.{◌≤◌, List}
 use Rattle.markdown_lines.specs.SourceLines.{SourceLine}
 use Rattle.markdown_plain.specs.HeldSources.{IsParagraph}
-use Rattle.markdown_plain.proofs.DividedLemmas.{IsLeftOf}
+use Rattle.markdown_plain.proofs.DefinitionsLemmas.{IsLeftOf}
 use Rattle.markdown_plain.proofs.paragraph.are_definitions.Given as goal
 
 abbrev pub invariant-definitions : goal.invariant-definitions

@@ -2,7 +2,7 @@
 use Rattle.std.proofs.Common.{◌≡◌, ◌+◌, slice_range, ◌∙◌, ap, sym, subst, rules, arith, refl}
 use Rattle.markdown_builder.specs.BuilderView.{BuilderView}
 use Rattle.markdown_items.proofs.RestOfLineLemmas.{no_items}
-use Rattle.markdown_plain.proofs.ParagraphLinesLemmas.{line_past_task, marked_line}
+use Rattle.markdown_plain.proofs.ParagraphTreesLemmas.{line_past_task, marked_line}
 use Rattle.markdown_lines.specs.TaskMarkers.{task_length}
 use Rattle.markdown_plain.proofs.ClosableLemmas.{IsPastTask, ahead_of, inside_leaf, past_task, rest_in_text, still_open}
 use Rattle.markdown_plain.specs.Closable.{HasTask}

@@ -9,13 +9,12 @@ use Rattle.markdown_lines.specs.SourceLines.{SourceLine}
 use Rattle.markdown_plain.specs.Fitting.{IsAhead, IsWhiteOutside}
 use Rattle.markdown_plain.specs.HeldSources.{IsParagraph}
 use Rattle.markdown_plain.specs.TakenDefinitions.{TakesDefinitions}
-use Rattle.markdown_plain.proofs.ClosableLemmas.{MayDefine, ahead_of, cuts_of, may_define, last_next}
-use Rattle.markdown_plain.proofs.ClosableLemmas.{may_pass, white_ahead}
-use Rattle.markdown_plain.proofs.DefinitionEndsLemmas.{IsSpanIn, are_sources, definition_span, sources_of}
-use Rattle.markdown_plain.proofs.DividedLemmas.{AreFilled, as_many, filled_of, first_read, no_bracket}
-use Rattle.markdown_plain.proofs.DividedLemmas.{no_bracket_byte, no_line, none_there, takes_empty, takes_first}
+use Rattle.markdown_plain.proofs.ClosableLemmas.{MayDefine, ahead_of, cuts_of, may_define, last_next, may_pass}
+use Rattle.markdown_plain.proofs.ClosableLemmas.{white_ahead, definition_moves, taken_to}
+use Rattle.markdown_plain.proofs.DefinitionsLemmas.{IsSpanIn, are_sources, definition_span, sources_of, AreFilled}
+use Rattle.markdown_plain.proofs.DefinitionsLemmas.{as_many, filled_of, first_read, no_bracket, no_bracket_byte}
+use Rattle.markdown_plain.proofs.DefinitionsLemmas.{no_line, none_there, takes_empty, takes_first}
 use Rattle.markdown_plain.specs.ParagraphSteps.{TakesLines}
-use Rattle.markdown_plain.proofs.ParagraphsLemmas.{definition_moves, taken_to}
 use Rattle.markdown_plain.proofs.paragraph.take_definition.Goals.{After-step_to-2}
 use Rattle.markdown_plain.proofs.paragraph.take_definition.Goals as goal
 

@@ -7,8 +7,8 @@ use Rattle.markdown_plain.specs.HeldSources.{IsParagraph}
 use Rattle.markdown_lines.specs.DefinitionRules.{divided}
 use Rattle.markdown_plain.specs.ParagraphSteps.{TakesLines}
 use Rattle.markdown_plain.specs.TakenDefinitions.{TakesDefinitions}
-use Rattle.markdown_plain.proofs.DividedLemmas.{is_divided, none_left, takes_more}
-use Rattle.markdown_plain.proofs.ParagraphsLemmas.{more_taken}
+use Rattle.markdown_plain.proofs.DefinitionsLemmas.{is_divided, none_left, takes_more}
+use Rattle.markdown_plain.proofs.ClosableLemmas.{more_taken}
 use Rattle.markdown_plain.proofs.paragraph.take_definitions.Goals.{In_ok-more}
 use Rattle.markdown_plain.proofs.paragraph.take_definitions.Goals as goal
 

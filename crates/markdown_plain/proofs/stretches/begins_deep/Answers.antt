@@ -1,7 +1,7 @@
 -- The last two blocks are the innermost and the block around it.
 use Rattle.std.proofs.Common.{◌∙◌, Bool, sym, ap, arith}
 use Rattle.std.specs.Prelude.{not}
-use Rattle.markdown_plain.proofs.StretchesLemmas.{begins_of}
+use Rattle.markdown_plain.proofs.ContainersLemmas.{begins_of}
 use Rattle.markdown_plain.proofs.stretches.begins_deep.Goals as goal
 
 pub returns : goal.returns

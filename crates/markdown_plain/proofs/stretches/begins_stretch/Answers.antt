@@ -1,7 +1,7 @@
 -- There are only few blocks, or more.
 use Rattle.std.proofs.Common.{◌∙◌, sym}
 use Rattle.markdown_plain.specs.Stretches.{few}
-use Rattle.markdown_plain.proofs.StretchesLemmas.{few_left, begins_deep}
+use Rattle.markdown_plain.proofs.ContainersLemmas.{few_left, begins_deep}
 use Rattle.markdown_plain.proofs.stretches.begins_stretch.Goals as goal
 
 pub returns-then-blocks : goal.returns-then-blocks

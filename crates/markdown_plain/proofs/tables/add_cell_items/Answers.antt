@@ -75,7 +75,8 @@ pieces-preserved c =
       texts =
           texts_after _ c.pieces.placing.builder _ c.pieces.invariant.texts
           (texts_after _ c.step_to.new.self.builder _
-          (no_text _ _ (ap (λ (v : BuilderView). v.texts) c.step_to.ensures.steps)) c.in_ok-add_items.ensures.appends.texts);
+          (no_text _ _ (ap (λ (v : BuilderView). v.texts) c.step_to.ensures.steps))
+          c.in_ok-add_items.ensures.appends.texts);
       whole = λ once more. elim c.if-escapes.branch [
         | then-escapes w ↦ absurd (true≢false (sym w.if-escapes.true ∙ once))
         | else-escapes w ↦ absurd (omega (arith, w.length-is, there, past, more))
@@ -100,7 +101,8 @@ pieces-preserved c =
       may =
           let cut = piece (goal.at.pieces-preserved c).After-saturating_add-end in
           piece_added text c.step_to.new.self.builder c.add_items.new.self.builder to stop next cut.high
-          (piece_cut text from to stop next c.requires.cell.to cut after past) c.in_ok-add_items.ensures.appends.goes_on;
+          (piece_cut text from to stop next c.requires.cell.to cut after past)
+          c.in_ok-add_items.ensures.appends.goes_on;
     }
 
 -- the next piece fits

@@ -5,7 +5,7 @@ use Rattle.markdown_builder.specs.BuilderView.{BuilderView, Opens}
 use Rattle.markdown_items.specs.LineItems.{item_syntax}
 use Rattle.markdown_block_rules.specs.LineContents.{cell_items}
 use Rattle.markdown_plain.specs.Fitting.{GoesOn, stepped}
-use Rattle.markdown_plain.proofs.FittingLemmas.{IsInLeafAt, goes_at, may_step, opened_from, step_at, stepped_at}
+use Rattle.markdown_plain.proofs.ReadyLinesLemmas.{IsInLeafAt, goes_at, may_step, opened_from, step_at, stepped_at}
 use Rattle.markdown_plain.proofs.ShownRowsLemmas.{cell_puts}
 use Rattle.markdown_plain.proofs.tables.place_cell.Goals as goal
 

@@ -5,7 +5,7 @@ use Rattle.std.specs.List.{list_any}
 use Rattle.markdown_builder.specs.BuilderView.{BuilderView}
 use Rattle.markdown_block_rules.specs.BlockRules.{shown_cells}
 use Rattle.markdown_plain.specs.TableRows.{IsOnePiece, PutsTrees}
-use Rattle.markdown_plain.proofs.FittingLemmas.{may_step}
+use Rattle.markdown_plain.proofs.ReadyLinesLemmas.{may_step}
 use Rattle.markdown_plain.proofs.ShownRowsLemmas.{cell_added, comes_next, empty_added, found_is, may_add_cell}
 use Rattle.markdown_plain.proofs.ShownRowsLemmas.{one_piece_in, row_begins, row_even, row_puts, row_some}
 use Rattle.std.proofs.lemmas.Bool.Decides.{nat_tests}

@@ -1,7 +1,7 @@
 -- The last flag is written.
 use Rattle.std.proofs.Common.{◌<◌, true, length, arith}
 use Rattle.std.proofs.lemmas.List.{length_push}
-use Rattle.markdown_plain.proofs.ListLoosenessLemmas.{last_set}
+use Rattle.markdown_plain.proofs.OpenListsLemmas.{last_set}
 use Rattle.markdown_plain.proofs.looseness.Looseness.loosen.Goals as goal
 
 pub returns-clause-loose : goal.returns-clause-loose

@@ -8,7 +8,7 @@ use Rattle.markdown_lines.specs.declared.held_line.HeldLine.{HeldLine}
 use Rattle.markdown_plain.specs.CodeLines.{is_closed_at}
 use Rattle.markdown_plain.specs.Fits.{MayAddLine}
 use Rattle.markdown_plain.specs.HeldSources.{IsHeld}
-use Rattle.markdown_plain.proofs.FittingLemmas.{line_at, space_ahead}
+use Rattle.markdown_plain.proofs.ReadyLinesLemmas.{line_at, space_ahead}
 use Rattle.markdown_plain.proofs.LeafTreesLemmas.{cut_held}
 use Rattle.markdown_plain.proofs.LinedLeavesLemmas.{closes_alike, cut_within, ends_with, fenced_grows, grown_leaf}
 use Rattle.markdown_plain.proofs.LinedLeavesLemmas.{puts_lines, puts_none, rest_ordered}

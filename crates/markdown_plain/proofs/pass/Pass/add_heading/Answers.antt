@@ -7,9 +7,8 @@ use Rattle.markdown_items.specs.ContentItems.{content_items}
 use Rattle.markdown_items.specs.LineItems.{item_syntax}
 use Rattle.markdown_plain.specs.Fitting.{GoesOn, OpensHeading, stepped}
 use Rattle.markdown_plain.specs.OpenLeaves.{is_leaf}
-use Rattle.markdown_plain.proofs.FittingLemmas.{IsInLeafAt, goes_at, opened_at, step_at, stepped_at}
-use Rattle.markdown_plain.proofs.LeavesInPlaceLemmas.{closed_leaf}
-use Rattle.markdown_plain.proofs.LinedLeavesLemmas.{PutsItems, heading_opened}
+use Rattle.markdown_plain.proofs.ReadyLinesLemmas.{IsInLeafAt, goes_at, opened_at, step_at, stepped_at}
+use Rattle.markdown_plain.proofs.LinedLeavesLemmas.{closed_leaf, PutsItems, heading_opened}
 use Rattle.markdown_plain.proofs.pass.Pass.add_heading.Goals as goal
 
 -- the builder is in the heading that was opened
@@ -49,7 +48,8 @@ pub step_to-requires-2 : goal.step_to-requires-2
 step_to-requires-2 c =
     step_at _ _ c.args.line.next c.add_items.new.self.builder
     (filled_to c.args.self.now.placing.builder c.open_heading.new.placing.builder _ _ c.args.heading.level _ _
-    c.in_ok-open_heading.ensures.opens c.step_to.ensures.steps c.in_ok-add_items.ensures.appends.goes_on) c.requires.within
+    c.in_ok-open_heading.ensures.opens c.step_to.ensures.steps c.in_ok-add_items.ensures.appends.goes_on)
+    c.requires.within
     c.requires.next
 
 pub close-requires : goal.close-requires

@@ -10,10 +10,9 @@ use Rattle.markdown_lines.specs.declared.held_line.HeldLine.{HeldLine}
 use Rattle.markdown_block_rules.specs.TableLines.{fitting, further_line}
 use Rattle.markdown_plain.specs.declared.pass.Pass.{Pass}
 use Rattle.markdown_plain.specs.TableHeads.{FollowsLast}
-use Rattle.markdown_plain.proofs.TableFrontsLemmas.{found_alignments, turned_on}
-use Rattle.markdown_plain.proofs.FittingLemmas.{may_step}
-use Rattle.markdown_plain.proofs.DelimiterRowsLemmas.{far_fits, last_is, none_begun, other_fits, read_fits}
-use Rattle.markdown_plain.proofs.DelimiterRowsLemmas.{tried_then}
+use Rattle.markdown_plain.proofs.PlacedTablesLemmas.{found_alignments, turned_on}
+use Rattle.markdown_plain.proofs.ReadyLinesLemmas.{may_step}
+use Rattle.markdown_plain.proofs.DelimiterRowsLemmas.{far_fits, last_is, none_begun, other_fits, read_fits, tried_then}
 use Rattle.markdown_plain.proofs.pass.Pass.begin_table.Goals.{then-space-ge4-via-then-space-ge4}
 use Rattle.markdown_plain.proofs.pass.Pass.begin_table.Goals.{
   then-space-ge4-via-else-space-ge4+then-not-begins_delimiter_row,

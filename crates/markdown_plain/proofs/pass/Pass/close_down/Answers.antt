@@ -7,8 +7,8 @@ use Rattle.markdown_plain.specs.Closable.{AreClosable}
 use Rattle.markdown_plain.specs.OpenBlocks.{without_leaf}
 use Rattle.markdown_plain.specs.declared.pass.Pass.{Pass}
 use Rattle.markdown_plain.proofs.ClosingDownLemmas.{one_closed}
-use Rattle.markdown_plain.proofs.HasRoomLemmas.{not_down}
-use Rattle.markdown_plain.proofs.OpenBlocksLemmas.{length_of_outer}
+use Rattle.markdown_plain.proofs.OpenTablesLemmas.{not_down}
+use Rattle.markdown_plain.proofs.LeafTreesLemmas.{length_of_outer}
 use Rattle.markdown_plain.proofs.pass.Pass.close_down.Goals as goal
 
 pub blocks-2-init : goal.blocks-2-init

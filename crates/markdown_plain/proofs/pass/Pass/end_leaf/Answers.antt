@@ -6,9 +6,9 @@ use Rattle.markdown_plain.specs.OpenBlocks.{has_leaf}
 use Rattle.markdown_plain.specs.ParagraphSteps.{EndsTo}
 use Rattle.markdown_plain.specs.OpenLeaves.{is_table}
 use Rattle.markdown_plain.proofs.ClosingDownLemmas.{leaf_ended}
-use Rattle.markdown_plain.proofs.HasRoomLemmas.{none_held}
-use Rattle.markdown_plain.proofs.LeavesInPlaceLemmas.{closed_leaf}
-use Rattle.markdown_plain.proofs.ParagraphsLemmas.{past_end}
+use Rattle.markdown_plain.proofs.OpenTablesLemmas.{none_held}
+use Rattle.markdown_plain.proofs.LinedLeavesLemmas.{closed_leaf}
+use Rattle.markdown_plain.proofs.ClosableLemmas.{past_end}
 use Rattle.markdown_plain.proofs.pass.Pass.end_leaf.Goals as goal
 
 pub returns-then-has_leaf : goal.returns-then-has_leaf

@@ -8,10 +8,9 @@ use Rattle.markdown_lines.specs.SourceLines.{SourceLine}
 use Rattle.markdown_lines.specs.declared.held_line.HeldLine.{HeldLine}
 use Rattle.markdown_scan.specs.Entity.{entity_names}
 use Rattle.markdown_block_rules.specs.BlockRules.{in_no_item}
-use Rattle.markdown_plain.proofs.ParagraphsInPlaceLemmas.{HasEnded, nothing_ended, placed_ended}
-use Rattle.markdown_plain.proofs.ParagraphsInPlaceLemmas.{ended_is_placed, headed_block, headed_last, left_over}
-use Rattle.markdown_plain.proofs.ParagraphsInPlaceLemmas.{nothing_left}
-use Rattle.markdown_plain.proofs.DividedLemmas.{as_many}
+use Rattle.markdown_plain.proofs.ParagraphsInPlaceLemmas.{HasEnded, nothing_ended, placed_ended, ended_is_placed}
+use Rattle.markdown_plain.proofs.ParagraphsInPlaceLemmas.{headed_block, headed_last, left_over, nothing_left}
+use Rattle.markdown_plain.proofs.DefinitionsLemmas.{as_many}
 use Rattle.markdown_plain.specs.HeldSources.{IsParagraph}
 use Rattle.markdown_plain.specs.OpenLeaves.{HoldsParagraph, IsPlaced, ended_block, leaf_block}
 use Rattle.markdown_plain.specs.OpenedFrames.{around_innermost}

@@ -5,7 +5,7 @@ use Rattle.markdown_lines.specs.SourceLines.{cut}
 use Rattle.markdown_plain.specs.CodeLines.{rest_from}
 use Rattle.markdown_plain.specs.HeldSources.{AreHeld}
 use Rattle.markdown_plain.specs.Fits.{MayAddAfter, MayAddBefore}
-use Rattle.markdown_plain.proofs.FittingLemmas.{held_fits, space_ahead, space_stops}
+use Rattle.markdown_plain.proofs.ReadyLinesLemmas.{held_fits, space_ahead, space_stops}
 use Rattle.markdown_plain.proofs.LeafTreesLemmas.{cut_held, held_more}
 use Rattle.markdown_plain.proofs.pass.Pass.hold_blank.Goals as goal
 

@@ -4,13 +4,12 @@ use Rattle.std.specs.Prelude.{slice_get}
 use Rattle.std.specs.Option.{option_map}
 use Rattle.markdown_lines.specs.HeadingAttributes.{braces_from, braces_in}
 use Rattle.markdown_lines.specs.declared.held_line.HeldLine.{HeldLine}
-use Rattle.markdown_plain.proofs.ParagraphTreesLemmas.{heading_last, none_of_paragraph, none_read}
+use Rattle.markdown_plain.proofs.ParagraphTreesLemmas.{heading_last, none_of_paragraph, none_read, braces_within}
 use Rattle.markdown_plain.proofs.pass.Pass.last_braces.Goals.{then-is_none-via-then-is_none}
 use Rattle.markdown_plain.proofs.pass.Pass.last_braces.Goals.{then-is_none-via-else-is_none+then-not-self}
 use Rattle.std.proofs.lemmas.Option.{same_Some}
 use Rattle.std.specs.Str.{IsUtf8}
 use Rattle.markdown_plain.specs.Closable.{HasBraces}
-use Rattle.markdown_plain.proofs.ParagraphTreesLemmas.{braces_within}
 use Rattle.markdown_plain.proofs.pass.Pass.last_braces.Goals as goal
 
 pub returns-then-is_none-clause-value : goal.returns-then-is_none-clause-value

@@ -4,7 +4,7 @@ use Rattle.markdown_plain.specs.Closable.{AreClosable}
 use Rattle.markdown_plain.specs.OpenBlocks.{innermost_is, is_list}
 use Rattle.markdown_plain.specs.declared.pass.Pass.{Pass}
 use Rattle.markdown_plain.proofs.ClosingDownLemmas.{ClosesList, closed_list, no_list, room_made}
-use Rattle.markdown_plain.proofs.HasRoomLemmas.{not_room}
+use Rattle.markdown_plain.proofs.OpenTablesLemmas.{not_room}
 use Rattle.markdown_plain.proofs.pass.Pass.make_room.Goals.{then-is_in_list, else-is_in_list}
 use Rattle.markdown_plain.proofs.pass.Pass.make_room.Goals as goal
 

@@ -1,7 +1,7 @@
 -- There is room for the block that the rest of the line begins.
 use Rattle.std.proofs.lemmas.Result.{IfOk-weaker}
-use Rattle.markdown_plain.proofs.HasRoomLemmas.{here_room}
-use Rattle.markdown_plain.proofs.RoomForBlocksLemmas.{room_for}
+use Rattle.markdown_plain.proofs.OpenTablesLemmas.{here_room}
+use Rattle.markdown_plain.proofs.BegunItemsLemmas.{room_for}
 use Rattle.markdown_plain.proofs.pass.Pass.make_room_for.Goals as goal
 
 pub returns-clause-room : goal.returns-clause-room

@@ -14,9 +14,10 @@ use Rattle.markdown_plain.specs.declared.pass.Pass.{Pass}
 use Rattle.markdown_base.specs.Source.{Source}
 use Rattle.markdown_lines.specs.SourceLines.{SourceLine}
 use Rattle.markdown_plain.specs.TableHeads.{IsLastLine}
-use Rattle.markdown_plain.proofs.TableHeadsLemmas.{any_tried, as_tried, columns_again, count_of, first_by_index}
-use Rattle.markdown_plain.proofs.TableHeadsLemmas.{front_of, last_filled, lazy_again, left_by_index, may_after_none}
-use Rattle.markdown_plain.proofs.TableHeadsLemmas.{may_first, may_last, may_lazy, may_led, not_near, second_left, unled}
+use Rattle.markdown_plain.proofs.DelimiterRowsLemmas.{any_tried, as_tried, columns_again, count_of, first_by_index}
+use Rattle.markdown_plain.proofs.DelimiterRowsLemmas.{front_of, last_filled, lazy_again, left_by_index, may_after_none}
+use Rattle.markdown_plain.proofs.DelimiterRowsLemmas.{may_first, may_last, may_lazy, may_led, not_near, second_left}
+use Rattle.markdown_plain.proofs.DelimiterRowsLemmas.{unled}
 use Rattle.markdown_plain.proofs.pass.Pass.may_be_head.Goals.{else-before-eq1-via-then-before-eq1+else-index}
 use Rattle.markdown_plain.proofs.pass.Pass.may_be_head.Goals.{else-before-eq1-via-else-before-eq1}
 use Rattle.markdown_plain.proofs.pass.Pass.may_be_head.Goals.{else-columns-lt4-via-then-columns-lt4+else-eq}

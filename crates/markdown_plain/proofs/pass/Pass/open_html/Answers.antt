@@ -7,12 +7,10 @@ use Rattle.markdown_builder.specs.declared.open_block.OpenBlock.{OpenBlock}
 use Rattle.markdown_plain.specs.CodeLines.{ends_html_at}
 use Rattle.markdown_plain.specs.Fitting.{stepped}
 use Rattle.markdown_plain.specs.OpenLeaves.{is_leaf}
-use Rattle.markdown_plain.proofs.FittingLemmas.{in_leaf, line_at, opened_from}
-use Rattle.markdown_plain.proofs.LeafTreesLemmas.{rest_held}
-use Rattle.markdown_plain.proofs.LeavesInPlaceLemmas.{closed_if, closed_text}
-use Rattle.markdown_plain.proofs.LinedLeavesLemmas.{BeginsHtml, ends_with, html_alike, html_begins, html_begun}
-use Rattle.markdown_plain.proofs.LinedLeavesLemmas.{rest_ordered, same_content, stop_after}
-use Rattle.markdown_plain.proofs.OpenBlocksLemmas.{innermost_of_opened}
+use Rattle.markdown_plain.proofs.ReadyLinesLemmas.{in_leaf, line_at, opened_from}
+use Rattle.markdown_plain.proofs.LeafTreesLemmas.{rest_held, innermost_of_opened}
+use Rattle.markdown_plain.proofs.LinedLeavesLemmas.{closed_if, closed_text, BeginsHtml, ends_with, html_alike}
+use Rattle.markdown_plain.proofs.LinedLeavesLemmas.{html_begins, html_begun, rest_ordered, same_content, stop_after}
 use Rattle.markdown_plain.proofs.pass.Pass.open_html.Goals as goal
 
 pub add_html_line-requires : goal.add_html_line-requires

@@ -11,9 +11,9 @@ use Rattle.markdown_plain.specs.Standing.{with_last}
 use Rattle.markdown_plain.specs.declared.pass.Pass.{Pass}
 use Rattle.markdown_plain.proofs.ClosableLemmas.{item_ahead, item_outside, item_white, listed_ahead}
 use Rattle.markdown_plain.proofs.ClosingDownLemmas.{only_containers, unheld_in}
-use Rattle.markdown_plain.proofs.FramesInsideLemmas.{inner_last}
-use Rattle.markdown_plain.proofs.HasRoomLemmas.{room_is}
-use Rattle.markdown_plain.proofs.OpenBlocksLemmas.{no_leaf_there}
+use Rattle.markdown_plain.proofs.FramesLemmas.{inner_last}
+use Rattle.markdown_plain.proofs.OpenTablesLemmas.{room_is}
+use Rattle.markdown_plain.proofs.LeafTreesLemmas.{no_leaf_there}
 use Rattle.markdown_plain.proofs.OpenedFramesLemmas.{item_is, plain_is_built}
 use Rattle.markdown_plain.proofs.pass.Pass.open_item.Goals.{In_ok-close_down}
 use Rattle.markdown_plain.proofs.pass.Pass.open_item.Goals as goal

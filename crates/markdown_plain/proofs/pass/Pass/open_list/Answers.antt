@@ -21,10 +21,10 @@ use Rattle.markdown_plain.specs.Settled.{AreOpen, BlanksKnown, IsLooseAs}
 use Rattle.markdown_lines.specs.declared.list_marker.ListMarker.{ListMarker}
 use Rattle.markdown_plain.specs.declared.looseness.Looseness.{Looseness}
 use Rattle.markdown_plain.specs.declared.pass.Pass.{Pass}
-use Rattle.markdown_plain.proofs.ClosingDownLemmas.{ClosesList, block_begins, closed_list, keeps_rest, list_cleared}
+use Rattle.markdown_plain.proofs.ClosingDownLemmas.{ClosesList, looseness_begins, closed_list, keeps_rest, list_cleared}
 use Rattle.markdown_plain.proofs.ClosingDownLemmas.{built_only, no_list}
-use Rattle.markdown_plain.proofs.FittingLemmas.{some_opened}
-use Rattle.markdown_plain.proofs.FramesInsideLemmas.{inner_last}
+use Rattle.markdown_plain.proofs.ReadyLinesLemmas.{some_opened}
+use Rattle.markdown_plain.proofs.FramesLemmas.{inner_last}
 use Rattle.markdown_plain.proofs.OpenedFramesLemmas.{list_for_item, list_goes_on, list_innermost, list_is}
 use Rattle.markdown_plain.proofs.OpenedFramesLemmas.{plain_is_built}
 use Rattle.markdown_plain.proofs.pass.Pass.open_list.Goals.{in-Some-List+else-character-marker}
@@ -153,7 +153,7 @@ returns-clause-opens c =
     let place = cleared (goal.at.returns-clause-opens c).After-add_block in
     let free = list_cleared s old now (length frames) frames inside (omega arith) built.nested
     (rw (take_all (length frames) frames (omega arith), drop_all (length frames) frames (omega arith)) only) place in
-    let adds = block_begins s now c.add_block.new.self outer before
+    let adds = looseness_begins s now c.add_block.new.self outer before
     (λ texts fs below these. c.add_block.ensures.begins texts fs below (rw c.open_blocks-2.ensures these)) free in
     record {
       outer = with_frame outer before list;

@@ -3,9 +3,8 @@ use Rattle.std.proofs.Common.{◌≡◌, ◌∙◌, [], ap, false, refl, rules, 
 use Rattle.markdown_base.specs.declared.item.ItemBody.TheVariants as body
 use Rattle.markdown_builder.specs.BuilderView.{BuilderView}
 use Rattle.markdown_plain.specs.Fitting.{opened}
-use Rattle.markdown_plain.proofs.LeafTreesLemmas.{no_text}
+use Rattle.markdown_plain.proofs.LeafTreesLemmas.{no_text, outer_of_opened}
 use Rattle.markdown_plain.proofs.LinedLeavesLemmas.{lined_opened, metadata_lined, puts_none}
-use Rattle.markdown_plain.proofs.OpenBlocksLemmas.{outer_of_opened}
 use Rattle.markdown_plain.proofs.pass.Pass.open_metadata.Goals as goal
 
 pub returns-clause-leaf : goal.returns-clause-leaf

@@ -8,7 +8,7 @@ use Rattle.markdown_builder.specs.BuilderView.{BuilderView}
 use Rattle.markdown_builder.specs.EvenRows.{open_columns}
 use Rattle.markdown_plain.specs.TableRows.{PutsTrees, line_row}
 use Rattle.markdown_plain.specs.HeldSources.{IsTextLine}
-use Rattle.markdown_plain.proofs.FittingLemmas.{may_step, some_opened}
+use Rattle.markdown_plain.proofs.ReadyLinesLemmas.{may_step, some_opened}
 use Rattle.markdown_base.specs.Source.{Source}
 use Rattle.markdown_lines.specs.SourceLines.{SourceLine}
 use Rattle.markdown_block_rules.specs.BlockGrowth.{Block}
@@ -19,9 +19,9 @@ use Rattle.markdown_plain.specs.Frames.{Frame}
 use Rattle.markdown_plain.specs.Settled.{IsBuilt}
 use Rattle.markdown_plain.specs.TableHeads.{before_table, last_of}
 use Rattle.markdown_plain.specs.Paragraphs.{past}
-use Rattle.markdown_plain.proofs.TableFrontsLemmas.{HasFront, IsEndedAt, ahead_front, ended_front, front_holds}
-use Rattle.markdown_plain.proofs.TableFrontsLemmas.{front_none, head_in_text, head_is, may_step_to_head, none_ended}
-use Rattle.markdown_plain.proofs.TableFrontsLemmas.{with_head, table_begun}
+use Rattle.markdown_plain.proofs.PlacedTablesLemmas.{HasFront, IsEndedAt, ahead_front, ended_front, front_holds}
+use Rattle.markdown_plain.proofs.PlacedTablesLemmas.{front_none, head_in_text, head_is, may_step_to_head, none_ended}
+use Rattle.markdown_plain.proofs.PlacedTablesLemmas.{with_head, table_begun}
 use Rattle.markdown_plain.proofs.pass.Pass.open_table.Goals.{then-not-is_empty+in_ok-end_paragraph, else-not-is_empty}
 use Rattle.markdown_plain.proofs.pass.Pass.open_table.Goals.{After-step_to-arg-1, After-is_empty}
 use Rattle.markdown_plain.proofs.pass.Pass.open_table.Goals as goal

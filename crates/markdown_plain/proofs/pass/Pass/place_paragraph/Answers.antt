@@ -15,9 +15,8 @@ use Rattle.markdown_plain.specs.LeafTrees.{HasItems, HasTrees}
 use Rattle.markdown_plain.specs.ParagraphItems.{OpenInLast, heading_braces, text_items}
 use Rattle.markdown_plain.specs.Paragraphs.{first_task, lines_end, paragraph_end, shown_ended, source_of}
 use Rattle.markdown_plain.proofs.ClosableLemmas.{IsTextOpened, first_line, text_opened}
-use Rattle.markdown_plain.proofs.FittingLemmas.{may_step}
-use Rattle.markdown_plain.proofs.ParagraphTreesLemmas.{begin_first, heading_open}
-use Rattle.markdown_plain.proofs.ParagraphTreesLemmas.{takes_line}
+use Rattle.markdown_plain.proofs.ReadyLinesLemmas.{may_step}
+use Rattle.markdown_plain.proofs.ParagraphTreesLemmas.{begin_first, heading_open, takes_line}
 use Rattle.markdown_plain.proofs.ParagraphsInPlaceLemmas.{OpensText, none_run, opens_text, paragraph_ends, placed_tree}
 use Rattle.markdown_plain.proofs.ParagraphsInPlaceLemmas.{room_opened, text_placed, texts_placed}
 use Rattle.markdown_plain.proofs.pass.Pass.place_paragraph.Goals.{In_ok-open_text, In_ok-add_lines}

@@ -13,16 +13,15 @@ use Rattle.markdown_plain.specs.OpenLeaves.{BeginsText, leaf_block}
 use Rattle.markdown_plain.specs.OpenedFrames.{with_frame}
 use Rattle.markdown_plain.specs.Settled.{IsBuilt}
 use Rattle.markdown_plain.specs.declared.pass.Pass.{Pass}
-use Rattle.markdown_plain.proofs.BegunBlocksLemmas.{begun_block, begun_in_room, keeps_leaf, source_kept, still_may}
+use Rattle.markdown_plain.proofs.FoundBlocksLemmas.{begun_block, begun_in_room, keeps_leaf, source_kept, still_may}
 use Rattle.markdown_plain.proofs.BegunContainersLemmas.{in_line_more, line_in_room, loose_inside}
-use Rattle.markdown_plain.proofs.BegunTextsLemmas.{end_begins, end_block, held_from, text_inside}
-use Rattle.markdown_plain.proofs.FramesInsideLemmas.{inner_last}
-use Rattle.markdown_plain.proofs.FramesLemmas.{rebuilt_more}
+use Rattle.markdown_plain.proofs.BegunLeavesLemmas.{end_begins, end_block, held_from, text_inside}
+use Rattle.markdown_plain.proofs.FramesLemmas.{inner_last, rebuilt_more}
 use Rattle.markdown_plain.proofs.OpenedFramesLemmas.{as_many_containers}
-use Rattle.markdown_plain.proofs.ReadyContainersLemmas.{end_ready}
-use Rattle.markdown_plain.proofs.AddedLinesLemmas.{paragraph_begun}
-use Rattle.markdown_plain.proofs.HasRoomLemmas.{room_inside}
-use Rattle.markdown_plain.proofs.TextHereLemmas.{BeginsInside, begins_inside}
+use Rattle.markdown_plain.proofs.BegunItemsLemmas.{end_ready}
+use Rattle.markdown_plain.proofs.HeldLinesLemmas.{paragraph_begun}
+use Rattle.markdown_plain.proofs.OpenTablesLemmas.{room_inside}
+use Rattle.markdown_plain.proofs.TurnsLemmas.{BeginsInside, begins_inside}
 use Rattle.markdown_plain.proofs.pass.Pass.read_alert.Goals as goal
 
 -- the alert was opened where there was room for it, and the end of its line is held back inside it

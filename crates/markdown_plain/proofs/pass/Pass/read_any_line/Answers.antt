@@ -10,8 +10,8 @@ use Rattle.markdown_lines.specs.declared.line.Line.{Line}
 use Rattle.markdown_plain.specs.ReachedLines.{IsReachedBy, blocks_before}
 use Rattle.markdown_plain.specs.Readable.{LastGoesOff, MayReadLine, MayReadOn, MayReadRest, ReadsRest, StandsCounted}
 use Rattle.markdown_plain.specs.Standing.{StandsFor}
-use Rattle.markdown_plain.proofs.EndedLinesLemmas.{off_counted}
-use Rattle.markdown_plain.proofs.LeafLinesLemmas.{reached_by}
+use Rattle.markdown_plain.proofs.PlacedTablesLemmas.{off_counted}
+use Rattle.markdown_plain.proofs.TextReachedLemmas.{reached_by}
 use Rattle.markdown_plain.proofs.pass.Pass.read_any_line.Goals.{After-reach-reached}
 use Rattle.markdown_plain.proofs.pass.Pass.read_any_line.Goals as goal
 

@@ -13,8 +13,8 @@ use Rattle.markdown_plain.specs.Settled.{QuotesEnd}
 use Rattle.markdown_plain.specs.Standing.{StandsFor}
 use Rattle.markdown_plain.specs.declared.pass.LeafKind.TheVariants as leaf
 use Rattle.markdown_plain.specs.declared.pass.Pass.{Pass}
-use Rattle.markdown_plain.proofs.BlankStandingLemmas.{blank_ends, blank_seen, blank_stands}
-use Rattle.markdown_plain.proofs.BlankStandingLemmas.{closed_to_reached, code_stands, goes_not, none_inside}
+use Rattle.markdown_plain.proofs.BlankStandingLemmas.{blank_ends, blank_seen, blank_stands, closed_to_reached}
+use Rattle.markdown_plain.proofs.BlankStandingLemmas.{code_stands, goes_not, none_inside}
 use Rattle.markdown_plain.proofs.ReadyLinesLemmas.{SeesBlank, line_fits_after, place_reached}
 use Rattle.markdown_plain.proofs.pass.Pass.read_blank.Goals.{in-Indented, in_default}
 use Rattle.markdown_plain.proofs.pass.Pass.read_blank.Goals.{then-in_code+then-reached+in_ok-hold_blank}

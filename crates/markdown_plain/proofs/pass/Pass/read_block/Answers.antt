@@ -8,8 +8,8 @@ use Rattle.markdown_plain.specs.declared.beginnings.LineRest.{LineRest}
 use Rattle.markdown_plain.specs.declared.pass.Pass.{Pass}
 use Rattle.markdown_plain.specs.Beginning.{Begins, MayBeginBlock, Reads}
 use Rattle.markdown_plain.proofs.FoundPlacesLemmas.{Finds, may_begin, reads_block}
-use Rattle.markdown_plain.proofs.BegunFitsLemmas.{nothing_fits}
-use Rattle.markdown_plain.proofs.HasRoomLemmas.{here_room}
+use Rattle.markdown_plain.proofs.BegunLeavesLemmas.{nothing_fits}
+use Rattle.markdown_plain.proofs.OpenTablesLemmas.{here_room}
 use Rattle.markdown_plain.proofs.pass.Pass.read_block.Goals.{In_ok-begun}
 use Rattle.markdown_plain.proofs.pass.Pass.read_block.Goals as goal
 

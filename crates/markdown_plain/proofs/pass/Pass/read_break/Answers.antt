@@ -3,9 +3,8 @@ use Rattle.std.proofs.Common.{◌∙◌, refl, rules, sym, ap}
 use Rattle.markdown_builder.specs.BuilderView.{BuilderView}
 use Rattle.markdown_base.specs.Source.{Source}
 use Rattle.markdown_block_rules.specs.BlockGrowth as was
-use Rattle.markdown_plain.proofs.BegunBlocksLemmas.{begun_block, keeps_leaf}
-use Rattle.markdown_plain.proofs.BegunLeavesLemmas.{built_at, ended_in_room}
-use Rattle.markdown_plain.proofs.BegunFitsLemmas.{content_fits, next_ahead}
+use Rattle.markdown_plain.proofs.FoundBlocksLemmas.{begun_block, keeps_leaf}
+use Rattle.markdown_plain.proofs.BegunLeavesLemmas.{built_at, ended_in_room, content_fits, next_ahead}
 use Rattle.markdown_plain.proofs.pass.Pass.read_break.Goals as goal
 
 pub returns : goal.returns

@@ -15,9 +15,8 @@ use Rattle.markdown_plain.specs.declared.containers.Reached.{Reached}
 use Rattle.markdown_plain.specs.declared.pass.Pass.{Pass}
 use Rattle.markdown_plain.specs.ReachedLines.{IsReachedBy, reached_of}
 use Rattle.markdown_plain.specs.TableHeads.{IfParagraphLast, IsUntabled, Remembers}
-use Rattle.markdown_plain.proofs.PlacedTablesLemmas.{ReachesParagraph, row_fits, row_places}
-use Rattle.markdown_plain.proofs.PlacedTablesLemmas.{row_untabled}
-use Rattle.markdown_plain.proofs.UntabledLinesLemmas.{no_paragraph_last, of_paragraph, untabled_lazily}
+use Rattle.markdown_plain.proofs.PlacedTablesLemmas.{ReachesParagraph, row_fits, row_places, row_untabled}
+use Rattle.markdown_plain.proofs.ReadyTextsLemmas.{no_paragraph_last, of_paragraph, untabled_lazily}
 use Rattle.markdown_plain.proofs.pass.Pass.read_delimiter_row.Goals.{then-not-reached-via-then-not-reached}
 use Rattle.markdown_plain.proofs.pass.Pass.read_delimiter_row.Goals.{
   then-not-reached-via-else-not-reached+then-not-has_paragraph,

@@ -6,9 +6,8 @@ use Rattle.markdown_block_rules.specs.BlockGrowth as was
 use Rattle.markdown_plain.specs.OpenLeaves.{InfoStands}
 use Rattle.markdown_plain.specs.Standing.{IsLeafKind}
 use Rattle.markdown_plain.specs.declared.pass.LeafKind.{LeafKind}
-use Rattle.markdown_plain.proofs.BegunBlocksLemmas.{begun_block, keeps_rest, room_kept}
-use Rattle.markdown_plain.proofs.BegunLeavesLemmas.{open_in_room, other_alone}
-use Rattle.markdown_plain.proofs.BegunFitsLemmas.{content_fits}
+use Rattle.markdown_plain.proofs.FoundBlocksLemmas.{begun_block, keeps_rest, room_kept}
+use Rattle.markdown_plain.proofs.BegunLeavesLemmas.{open_in_room, other_alone, content_fits}
 use Rattle.markdown_plain.proofs.pass.Pass.read_fence.Goals as goal
 
 pub returns : goal.returns

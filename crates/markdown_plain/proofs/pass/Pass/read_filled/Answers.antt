@@ -17,7 +17,7 @@ use Rattle.markdown_plain.specs.TextLines.{IsTextFrom}
 use Rattle.markdown_plain.proofs.TurnsLemmas.{first_turn}
 use Rattle.markdown_plain.proofs.ReadyLinesLemmas.{stop_read}
 use Rattle.markdown_plain.proofs.TextReachedLemmas.{text_reached}
-use Rattle.markdown_plain.proofs.UntabledLinesLemmas.{text_untabled}
+use Rattle.markdown_plain.proofs.ReadyTextsLemmas.{text_untabled}
 use Rattle.markdown_plain.proofs.pass.Pass.read_filled.Goals.{then-not-branch+in_ok-read_rest, else-not-branch}
 use Rattle.markdown_plain.proofs.pass.Pass.read_filled.Goals as goal
 

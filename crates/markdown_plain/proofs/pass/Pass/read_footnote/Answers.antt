@@ -5,7 +5,7 @@ use Rattle.markdown_base.specs.CowText.{text_of}
 use Rattle.markdown_base.specs.Source.{Source}
 use Rattle.markdown_block_rules.specs.BlockGrowth as was
 use Rattle.markdown_plain.specs.Fits.{MayStep}
-use Rattle.markdown_plain.proofs.BegunBlocksLemmas.{begun_block, keeps_leaf, room_kept}
+use Rattle.markdown_plain.proofs.FoundBlocksLemmas.{begun_block, keeps_leaf, room_kept}
 use Rattle.markdown_plain.proofs.BegunContainersLemmas.{rest_in_room, room_inside}
 use Rattle.markdown_plain.proofs.pass.Pass.read_footnote.Goals as goal
 

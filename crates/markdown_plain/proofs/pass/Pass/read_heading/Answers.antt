@@ -4,10 +4,9 @@ use Rattle.markdown_builder.specs.BuilderView.{BuilderView}
 use Rattle.markdown_base.specs.Source.{Source}
 use Rattle.markdown_block_rules.specs.BlockGrowth as was
 use Rattle.markdown_plain.specs.Fitting.{BracesStand}
-use Rattle.markdown_plain.proofs.BegunBlocksLemmas.{begun_block, keeps_leaf, room_kept}
-use Rattle.markdown_plain.proofs.BegunLeavesLemmas.{built_at, ended_in_room}
+use Rattle.markdown_plain.proofs.FoundBlocksLemmas.{begun_block, keeps_leaf, room_kept}
+use Rattle.markdown_plain.proofs.BegunLeavesLemmas.{built_at, ended_in_room, content_fits, heading_fits}
 use Rattle.markdown_plain.specs.Beginning.{IsHeadingIn}
-use Rattle.markdown_plain.proofs.BegunFitsLemmas.{content_fits, heading_fits}
 use Rattle.markdown_plain.proofs.pass.Pass.read_heading.Goals as goal
 
 pub returns : goal.returns

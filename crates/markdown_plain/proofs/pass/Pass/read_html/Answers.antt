@@ -8,9 +8,8 @@ use Rattle.markdown_block_rules.specs.BlockGrowth as was
 use Rattle.markdown_block_rules.specs.BlockGrowth.{content_of, ends_html}
 use Rattle.markdown_plain.specs.OpenLeaves.{IsLineRest}
 use Rattle.markdown_plain.specs.TextLines.{held_line}
-use Rattle.markdown_plain.proofs.BegunBlocksLemmas.{begun_block, keeps_rest, room_kept}
-use Rattle.markdown_plain.proofs.BegunLeavesLemmas.{content_next, html_places}
-use Rattle.markdown_plain.proofs.BegunFitsLemmas.{html_fits}
+use Rattle.markdown_plain.proofs.FoundBlocksLemmas.{begun_block, keeps_rest, room_kept}
+use Rattle.markdown_plain.proofs.BegunLeavesLemmas.{content_next, html_places, html_fits}
 use Rattle.markdown_plain.proofs.pass.Pass.read_html.Goals as goal
 
 pub returns : goal.returns

@@ -8,12 +8,11 @@ use Rattle.markdown_block_rules.specs.BlockGrowth.{Block}
 use Rattle.markdown_plain.specs.OpenLeaves.{IsLineRest}
 use Rattle.markdown_plain.specs.Standing.{IsLeafKind}
 use Rattle.markdown_plain.specs.declared.pass.LeafKind.{LeafKind}
-use Rattle.markdown_plain.proofs.BegunBlocksLemmas.{keeps_rest, room_kept}
+use Rattle.markdown_plain.proofs.FoundBlocksLemmas.{keeps_rest, room_kept}
 use Rattle.markdown_plain.proofs.BegunLeavesLemmas.{code_ends, code_holds, code_in_room, code_left, open_in_room}
-use Rattle.markdown_plain.proofs.BegunLeavesLemmas.{other_alone}
-use Rattle.markdown_plain.proofs.BegunRestsLemmas.{blank_alike}
+use Rattle.markdown_plain.proofs.BegunLeavesLemmas.{other_alone, code_fits}
+use Rattle.markdown_plain.proofs.BegunContainersLemmas.{blank_alike}
 use Rattle.std.specs.Str.{IsCharBoundary}
-use Rattle.markdown_plain.proofs.BegunFitsLemmas.{code_fits}
 use Rattle.markdown_plain.proofs.pass.Pass.read_indented.Goals as goal
 
 pub returns : goal.returns

@@ -1,9 +1,8 @@
 -- The rest of the line is read inside the item.
 use Rattle.std.proofs.Common.{rules, subst}
 use Rattle.std.specs.Str.{IsCharBoundary}
-use Rattle.markdown_plain.proofs.BegunItemsLemmas.{item_reads_on}
+use Rattle.markdown_plain.proofs.BegunItemsLemmas.{item_reads_on, may_open_item}
 use Rattle.markdown_plain.proofs.FoundBlocksLemmas.{here_text}
-use Rattle.markdown_plain.proofs.ReadyContainersLemmas.{may_open_item}
 use Rattle.markdown_plain.proofs.pass.Pass.read_item.Goals as goal
 
 pub returns : goal.returns

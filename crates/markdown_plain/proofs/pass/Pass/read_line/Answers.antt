@@ -13,7 +13,7 @@ use Rattle.markdown_plain.specs.declared.pass.Pass.{Pass}
 use Rattle.markdown_plain.proofs.AddedCellsLemmas.{HasNoTable, counted_on, next_as_line}
 use Rattle.markdown_plain.proofs.OpenTablesLemmas.{table_none_last, table_open}
 use Rattle.markdown_plain.proofs.TextReachedLemmas.{text_outside}
-use Rattle.markdown_plain.proofs.UntabledLinesLemmas.{text_untabled_outside}
+use Rattle.markdown_plain.proofs.ReadyTextsLemmas.{text_untabled_outside}
 use Rattle.markdown_plain.proofs.pass.Pass.read_line.Goals as goal
 
 none_open : (blocks : List OpenBlock) → (length blocks == 0) ≡ true → blocks ≡ []

@@ -7,7 +7,7 @@ use Rattle.markdown_base.specs.Source.{Source}
 use Rattle.markdown_lines.specs.Lines.{IsLineFrom}
 use Rattle.markdown_plain.specs.Readable.{MayReadText}
 use Rattle.markdown_plain.specs.declared.pass.Pass.{Pass}
-use Rattle.markdown_plain.proofs.ReadyPlacesLemmas.{next_between}
+use Rattle.markdown_plain.proofs.ReadyLinesLemmas.{next_between}
 use Rattle.markdown_plain.proofs.WholeTextsLemmas.{IsNextLine, may_read_next, stands_first, stands_next, white_left}
 use Rattle.markdown_plain.proofs.WholeTextsLemmas.{whole_text}
 use Rattle.markdown_plain.proofs.pass.Pass.read_lines.Goals.{After-line_from-line}

@@ -5,9 +5,8 @@ use Rattle.markdown_base.specs.Source.{Source}
 use Rattle.markdown_block_rules.specs.BlockGrowth as was
 use Rattle.markdown_plain.specs.Standing.{IsLeafKind}
 use Rattle.markdown_plain.specs.declared.pass.LeafKind.{LeafKind}
-use Rattle.markdown_plain.proofs.BegunBlocksLemmas.{begun_block, keeps_rest}
-use Rattle.markdown_plain.proofs.BegunLeavesLemmas.{open_in_room}
-use Rattle.markdown_plain.proofs.BegunFitsLemmas.{metadata_alone, metadata_starts, content_fits}
+use Rattle.markdown_plain.proofs.FoundBlocksLemmas.{begun_block, keeps_rest}
+use Rattle.markdown_plain.proofs.BegunLeavesLemmas.{open_in_room, metadata_alone, metadata_starts, content_fits}
 use Rattle.markdown_plain.proofs.pass.Pass.read_metadata.Goals as goal
 
 pub returns : goal.returns

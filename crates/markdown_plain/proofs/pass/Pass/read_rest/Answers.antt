@@ -2,7 +2,7 @@
 use Rattle.std.proofs.Common.{List, ℕ, arith, rules, subst}
 use Rattle.markdown_plain.specs.TextLines.{IsTextFrom}
 use Rattle.markdown_plain.proofs.TurnsLemmas.{before_turns, last_turn, may_still, next_turn, text_turn, turns_end}
-use Rattle.markdown_plain.proofs.HasRoomLemmas.{here_room}
+use Rattle.markdown_plain.proofs.OpenTablesLemmas.{here_room}
 use Rattle.markdown_plain.proofs.pass.Pass.read_rest.Goals as goal
 
 pub blocks-2-init : goal.blocks-2-init

@@ -10,13 +10,13 @@ use Rattle.markdown_lines.specs.declared.line.Line.{Line}
 use Rattle.markdown_plain.specs.Readable.{MayReadOn}
 use Rattle.markdown_plain.specs.ReachedTables.{ReachesTable}
 use Rattle.markdown_plain.specs.declared.containers.Reached.{Reached}
-use Rattle.markdown_plain.proofs.EndedLinesLemmas.{none_inside}
+use Rattle.markdown_plain.proofs.PlacedTablesLemmas.{none_inside}
 use Rattle.markdown_plain.specs.TableRows.{AddsRow, MayAddRow, is_text_start, may_be_row}
 use Rattle.markdown_plain.specs.declared.pass.Pass.{Pass}
 use Rattle.markdown_plain.specs.TextLines.{held_line}
-use Rattle.markdown_plain.proofs.AddedRowsLemmas.{is_row_text, read_fits, read_off, read_places}
+use Rattle.markdown_plain.proofs.AddedRowsLemmas.{is_row_text, read_fits, read_off, read_places, ReadsRow, row_begun}
+use Rattle.markdown_plain.proofs.AddedRowsLemmas.{row_starts}
 use Rattle.markdown_plain.proofs.OpenedFramesLemmas.{both_ok}
-use Rattle.markdown_plain.proofs.ReadRowsLemmas.{ReadsRow, row_begun, row_starts}
 use Rattle.markdown_plain.proofs.pass.Pass.read_row.Goals.{In_ok-begun}
 use Rattle.markdown_plain.proofs.pass.Pass.read_row.Goals as goal
 

@@ -4,7 +4,7 @@ use Rattle.markdown_lines.specs.declared.block_start.BlockStart.{BlockStart}
 use Rattle.markdown_lines.specs.declared.block_start.BlockStart.TheVariants as start
 use Rattle.markdown_plain.specs.Beginning.{IsReadAsText, MayBeginBlock}
 use Rattle.markdown_plain.specs.Standing.{PlacesFor}
-use Rattle.markdown_plain.proofs.TextHereLemmas.{found_text, text_here}
+use Rattle.markdown_plain.proofs.TurnsLemmas.{found_text, text_here}
 use Rattle.markdown_plain.proofs.UnderlinesLemmas.{underline_added}
 use Rattle.markdown_plain.proofs.pass.Pass.read_text.Goals as goal
 use Rattle.markdown_plain.proofs.pass.Pass.read_text.Goals.{In_ok-add_text}

@@ -1,6 +1,6 @@
 -- The pass stands for what the line makes of its blocks.
 use Rattle.std.proofs.Common.{rules}
-use Rattle.markdown_plain.proofs.TextStepsLemmas.{stands_holds, text_places}
+use Rattle.markdown_plain.proofs.TurnsLemmas.{stands_holds, text_places}
 use Rattle.markdown_plain.proofs.pass.Pass.read_text_line.Goals as goal
 
 pub returns : goal.returns

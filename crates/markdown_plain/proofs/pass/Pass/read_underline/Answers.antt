@@ -3,7 +3,7 @@ use Rattle.std.proofs.Common.{◌≡◌, Bool, false, rules, subst, true}
 use Rattle.std.proofs.lemmas.Result.{IfOk-weaker}
 use Rattle.markdown_lines.specs.declared.block_start.BlockStart.TheVariants as start
 use Rattle.markdown_plain.specs.Paragraphs.{UnderlinesNothing}
-use Rattle.markdown_plain.proofs.HasRoomLemmas.{here_room}
+use Rattle.markdown_plain.proofs.OpenTablesLemmas.{here_room}
 use Rattle.markdown_plain.proofs.UnderlinesLemmas.{underline_begun, underline_fits}
 use Rattle.markdown_plain.proofs.pass.Pass.read_underline.Goals as goal
 use Rattle.markdown_plain.proofs.pass.Pass.read_underline.Goals.{In_ok-underlines_nothing}

@@ -1,6 +1,6 @@
 -- The line is recorded.
 use Rattle.std.proofs.Common.{rules}
-use Rattle.markdown_plain.proofs.StandingLemmas.{placed_stands}
+use Rattle.markdown_plain.proofs.BlankStandingLemmas.{placed_stands}
 use Rattle.markdown_plain.proofs.pass.Pass.see_content.Goals as goal
 
 pub returns-clause-stands : goal.returns-clause-stands

@@ -2,8 +2,8 @@
 use Rattle.std.proofs.Common.{◌∙◌, ap}
 use Rattle.markdown_builder.specs.BuilderView.{innermost_block}
 use Rattle.markdown_plain.specs.OpenBlocks.{outer_of}
-use Rattle.markdown_plain.proofs.OpenBlocksLemmas.{innermost_of_opened, last_apart}
-use Rattle.markdown_plain.proofs.StretchesLemmas.{stretches_replaced}
+use Rattle.markdown_plain.proofs.LeafTreesLemmas.{innermost_of_opened, last_apart}
+use Rattle.markdown_plain.proofs.ContainersLemmas.{stretches_replaced}
 use Rattle.markdown_plain.proofs.placing.Placing.begin_at_content.Goals as goal
 
 pub returns-in_default-clause-begins : goal.returns-in_default-clause-begins

@@ -2,8 +2,8 @@
 use Rattle.std.proofs.Common.{◌≡◌, [], arith}
 use Rattle.std.proofs.lemmas.Grind.{common_steps}
 use Rattle.markdown_plain.specs.OpenBlocks.{outer_of}
-use Rattle.markdown_plain.proofs.OpenBlocksLemmas.{last_apart}
-use Rattle.markdown_plain.proofs.StretchesLemmas.{stretches_replaced}
+use Rattle.markdown_plain.proofs.LeafTreesLemmas.{last_apart}
+use Rattle.markdown_plain.proofs.ContainersLemmas.{stretches_replaced}
 use Rattle.markdown_plain.proofs.placing.Placing.change.Goals as goal
 
 pub returns-clause-changes : goal.returns-clause-changes

@@ -1,7 +1,7 @@
 -- No block is open.
 use Rattle.std.proofs.Common.{ap}
 use Rattle.markdown_builder.specs.BuilderView.{BuilderView}
-use Rattle.markdown_plain.proofs.StretchesLemmas.{stretches_of_none}
+use Rattle.markdown_plain.proofs.ContainersLemmas.{stretches_of_none}
 use Rattle.markdown_plain.proofs.placing.Placing.new.Goals as goal
 
 pub invariant_of-result : goal.invariant_of-result

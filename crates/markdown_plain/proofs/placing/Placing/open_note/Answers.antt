@@ -1,7 +1,7 @@
 -- The stretches around the block are those of the blocks that were open.
 use Rattle.std.proofs.Common.{ap}
 use Rattle.markdown_builder.specs.BuilderView.{BuilderView}
-use Rattle.markdown_plain.proofs.StretchesLemmas.{stretches_inside}
+use Rattle.markdown_plain.proofs.ContainersLemmas.{stretches_inside}
 use Rattle.markdown_plain.proofs.placing.Placing.open_note.Goals as goal
 
 pub invariant_of-self-in-Ok : goal.invariant_of-self-in-Ok

@@ -1,7 +1,7 @@
 -- The innermost of the blocks begins a stretch, or none.
 use Rattle.std.proofs.Common.{◌∙◌, ◌-◌, ◌++◌, ◌∷◌, List, [], ℕ, length, sym, ap, arith}
 use Rattle.markdown_plain.specs.Stretches.{few}
-use Rattle.markdown_plain.proofs.StretchesLemmas.{some_left, deep_begun, deep_kept}
+use Rattle.markdown_plain.proofs.ContainersLemmas.{some_left, deep_begun, deep_kept}
 use Rattle.markdown_plain.proofs.stretches.Stretches.enter.Goals as goal
 
 pub overflow_sub-blocks : goal.overflow_sub-blocks

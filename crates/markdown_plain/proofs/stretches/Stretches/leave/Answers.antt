@@ -1,6 +1,6 @@
 -- The innermost of the blocks began a stretch, or none.
 use Rattle.std.proofs.Common.{◌∙◌, sym}
-use Rattle.markdown_plain.proofs.StretchesLemmas.{deep_begun, deep_kept, without_last}
+use Rattle.markdown_plain.proofs.ContainersLemmas.{deep_begun, deep_kept, without_last}
 use Rattle.markdown_plain.proofs.stretches.Stretches.leave.Goals as goal
 
 pub returns-then-begins_stretch : goal.returns-then-begins_stretch
