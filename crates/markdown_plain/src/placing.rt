@@ -97,7 +97,6 @@ impl<'a> Placing<'a> {
     /// Moves to byte offset `to`; where no block is open, only white space may be before it.
     pub fn step_to(&mut self, to: usize)
         requires { MayStep self.old.builder to }
-        ensures text { self.new.builder.text ≡ self.old.builder.text }
         ensures steps { self.new.builder ≡ stepped self.old.builder to }
     {
         self.builder.skip(to);
@@ -107,7 +106,6 @@ impl<'a> Placing<'a> {
     pub fn open_block(&mut self, body: ItemBody) -> Result<(), AllocError>
         requires block { is_plain_block body ≡ true }
         requires outside { self.old.builder.leaf ≡ false }
-        ensures text { IfOk result (λ _. self.new.builder.text ≡ self.old.builder.text) }
         ensures opens { IfOk result (λ _.
             Opens self.old.builder self.new.builder body) }
     {
@@ -124,7 +122,6 @@ impl<'a> Placing<'a> {
     /// Opens a fenced code block at the current byte offset.
     pub fn open_code(&mut self, info: CowStr<'a>) -> Result<(), AllocError>
         requires { self.old.builder.leaf ≡ false }
-        ensures text { IfOk result (λ _. self.new.builder.text ≡ self.old.builder.text) }
         ensures opens { IfOk result (λ _. OpensNaming self.old.builder self.new.builder
             body.FencedCodeBlock (text_of info.entry)) }
         ensures listed { IfOk result (λ _. self.new.builder.footnotes
@@ -147,7 +144,6 @@ impl<'a> Placing<'a> {
         attributes: HeadingAttributes<'a>,
     ) -> Result<(), AllocError>
         requires { self.old.builder.leaf ≡ false }
-        ensures text { IfOk result (λ _. self.new.builder.text ≡ self.old.builder.text) }
         ensures opens { IfOk result (λ _. OpensAttributed self.old.builder self.new.builder level
             (words_of attributes.entry)) }
     {
@@ -164,7 +160,6 @@ impl<'a> Placing<'a> {
     /// Opens a footnote definition at the current byte offset.
     pub fn open_note(&mut self, name: CowStr<'a>, listed: CowStr<'a>) -> Result<(), AllocError>
         requires { self.old.builder.leaf ≡ false }
-        ensures text { IfOk result (λ _. self.new.builder.text ≡ self.old.builder.text) }
         ensures opens { IfOk result (λ _. OpensNaming self.old.builder self.new.builder
             body.FootnoteDefinition (text_of name.entry)) }
         ensures listed { IfOk result (λ _. self.new.builder.footnotes
@@ -183,7 +178,6 @@ impl<'a> Placing<'a> {
     /// Opens a table at the current byte offset, with the alignments of its columns.
     pub fn open_table(&mut self, alignments: Vec<Alignment>) -> Result<(), AllocError>
         requires { self.old.builder.leaf ≡ false }
-        ensures text { IfOk result (λ _. self.new.builder.text ≡ self.old.builder.text) }
         ensures opens { IfOk result (λ _. OpensTable self.old.builder self.new.builder
             alignments.items) }
     {
@@ -243,7 +237,6 @@ impl<'a> Placing<'a> {
         requires settled { is_settled body ≡ true }
         requires inside { self.old.builder.leaf ≡ true }
         requires ahead { IsAhead self.old.builder end }
-        ensures text { IfOk result (λ _. self.new.builder.text ≡ self.old.builder.text) }
         ensures appends { IfOk result (λ _. AppendsItem self.old.builder self.new.builder body
             end) }
     {
@@ -309,7 +302,6 @@ impl<'a> Placing<'a> {
     pub fn add_rule(&mut self, end: usize) -> Result<(), AllocError>
         requires outside { self.old.builder.leaf ≡ false }
         requires ahead { IsAhead self.old.builder end }
-        ensures text { IfOk result (λ _. self.new.builder.text ≡ self.old.builder.text) }
         ensures appends { IfOk result (λ _. AppendsItem self.old.builder self.new.builder body.Rule
             end) }
     {
@@ -326,7 +318,6 @@ impl<'a> Placing<'a> {
     pub fn add_definition(&mut self, found: Definition<'a>) -> Result<(), AllocError>
         requires ahead { IsAhead self.old.builder found.end }
         requires bracket { slice_get self.old.builder.text self.old.builder.at ≡ Some 91 }
-        ensures text { IfOk result (λ _. self.new.builder.text ≡ self.old.builder.text) }
         ensures adds { IfOk result (λ _. self.new.builder
             ≡ defining self.old.builder (self.old.builder.definitions ++ record {
               label = text_of found.entry.label;
@@ -356,7 +347,6 @@ impl<'a> Placing<'a> {
     pub fn close(&mut self)
         requires some { self.old.builder.blocks ≡ [] → ⊥ }
         requires other { is_in_row self.old.builder.blocks ≡ false }
-        ensures text { self.new.builder.text ≡ self.old.builder.text }
         ensures closes { self.new.builder ≡ closed self.old.builder self.new.builder.levels }
         ensures tree { PutsBlock self.old.builder self.new.builder }
     {
@@ -367,7 +357,6 @@ impl<'a> Placing<'a> {
     pub fn close_row(&mut self)
         requires some { self.old.builder.blocks ≡ [] → ⊥ }
         requires even { InnermostRowIsEven self.old.builder }
-        ensures text { self.new.builder.text ≡ self.old.builder.text }
         ensures closes { self.new.builder ≡ closed self.old.builder self.new.builder.levels }
         ensures tree { PutsBlock self.old.builder self.new.builder }
     {
@@ -380,7 +369,6 @@ impl<'a> Placing<'a> {
     fn close_innermost(&mut self)
         requires some { self.old.builder.blocks ≡ [] → ⊥ }
         requires even { InnermostRowIsEven self.old.builder }
-        ensures text { self.new.builder.text ≡ self.old.builder.text }
         ensures closes { self.new.builder ≡ closed self.old.builder self.new.builder.levels }
         ensures tree { PutsBlock self.old.builder self.new.builder }
     {

@@ -108,6 +108,7 @@ add_inline-requires c =
       inside = ap (λ (b : BuilderView). b.leaf) stepped
           ∙ (ap (λ (b : BuilderView). b.leaf) read ∙ c.requires.inside.leaf);
       ahead = ahead_of old.text c.line_break-between.result.start c.args.line.next c.step_to-2.new.self.builder
-          (c.step_to-2.ensures.text ∙ ap (λ (b : BuilderView). b.text) read) (ap (λ (b : BuilderView). b.at) stepped)
+          (ap (λ (b : BuilderView). b.text) c.step_to-2.ensures.steps ∙ ap (λ (b : BuilderView). b.text) read)
+          (ap (λ (b : BuilderView). b.at) stepped)
           (omega (arith, between.high, line.ending)) line.next;
     }

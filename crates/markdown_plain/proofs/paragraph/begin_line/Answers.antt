@@ -45,7 +45,8 @@ returns-clause-begins c = λ source is task run.
 past : (c : After-task_length-length) → IsPastTask c.args.placing.now.builder.text c.args.line
 past c =
     let text = c.args.placing.now.builder.text in
-    past_task text c.args.line c.in-Some.done (subst IsUtf8 (c.text.ensures ∙ c.step_to.ensures.text) c.text.utf8)
+    past_task text c.args.line c.in-Some.done
+    (subst IsUtf8 (c.text.ensures ∙ ap (λ (b : BuilderView). b.text) c.step_to.ensures.steps) c.text.utf8)
     c.requires.room.line (subst (λ t. HasTask text t c.args.line) c.in-Some.is c.requires.task)
 
 pub returns-clause-within : goal.returns-clause-within
@@ -62,7 +63,8 @@ add_inline-requires-clause-ahead c =
     let text = c.args.placing.now.builder.text in
     let after = past (goal.at.add_inline-requires-clause-ahead c).After-task_length-length in
     let marker : c.saturating_add.result ≡ c.args.line.start + 3 = search rules in
-    ahead_of text c.args.line.start _ c.step_to.new.self.builder c.step_to.ensures.text
+    ahead_of text c.args.line.start _ c.step_to.new.self.builder
+    (ap (λ (b : BuilderView). b.text) c.step_to.ensures.steps)
     (ap (λ (b : BuilderView). b.at) c.step_to.ensures.steps) (omega (arith, marker))
     (subst (IsCharBoundary text) (sym marker) after.marker)
 
@@ -82,7 +84,8 @@ step_to-requires-2 c =
     (ap (λ (b : BuilderView). b.leaf) added) (ap (λ (b : BuilderView). b.blocks) added) begun in
     record {
       ahead = ahead_of old.text c.saturating_add.result _ c.add_inline.new.self.builder
-          (c.in_ok-add_inline.ensures.text ∙ c.step_to.ensures.text) (ap (λ (b : BuilderView). b.at) added)
+          (ap (λ (b : BuilderView). b.text) c.in_ok-add_inline.ensures.appends ∙ ap (λ (b : BuilderView). b.text)
+          c.step_to.ensures.steps) (ap (λ (b : BuilderView). b.at) added)
           (omega (arith, marker, start, after.three)) (subst (IsCharBoundary old.text) (sym start) after.rest);
       white = inside_leaf _ _ marked;
     }

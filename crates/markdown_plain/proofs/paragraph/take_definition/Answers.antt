@@ -133,7 +133,8 @@ add_definition-requires-clause-ahead c =
     let d = defines (goal.at.add_definition-requires-clause-ahead c).After-step_to-2 in
     ahead_of c.args.placing.now.builder.text c.in-Some.first.now.start c.in-Some-2.found.end
     c.step_to-2.new.self.builder
-    c.step_to-2.ensures.text (ap (λ (b : BuilderView). b.at) c.step_to-2.ensures.steps) d.low d.boundary
+    (ap (λ (b : BuilderView). b.text) c.step_to-2.ensures.steps)
+    (ap (λ (b : BuilderView). b.at) c.step_to-2.ensures.steps) d.low d.boundary
 
 pub step_to-requires-3 : goal.step_to-requires-3
 step_to-requires-3 c =
@@ -142,7 +143,8 @@ step_to-requires-3 c =
     let before = (goal.at.step_to-requires-3 c).After-step_to-2 in
     let s = span before in
     let d = defines before in
-    let text = c.in_ok-add_definition.ensures.text ∙ c.step_to-2.ensures.text in
+    let text = ap (λ (b : BuilderView). b.text) c.in_ok-add_definition.ensures.adds ∙ ap (λ (b : BuilderView). b.text)
+    c.step_to-2.ensures.steps in
     let at = ap (λ (b : BuilderView). b.at) c.in_ok-add_definition.ensures.adds in
     let now = c.add_definition.new.self.builder in
     let last = sym (last_next c.args.lines.now s.number c.min-taken.result s.line _ s.count_is s.there) in

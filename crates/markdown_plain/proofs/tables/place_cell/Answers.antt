@@ -56,7 +56,8 @@ returns c = λ once.
     let begun = c.open_block.new.self.builder in
     let filled = c.in_ok-add_cell_items.ensures in
     let opened = c.in_ok-open_block.ensures.opens in
-    let same : begun.text ≡ old.text = c.in_ok-open_block.ensures.text ∙ c.step_to.ensures.text in
+    let same : begun.text ≡ old.text = ap (λ (b : BuilderView). b.text) c.in_ok-open_block.ensures.opens ∙ ap
+    (λ (b : BuilderView). b.text) c.step_to.ensures.steps in
     let items = filled.items (λ whole. rw same (once whole)) (ap (λ (v : BuilderView). v.run) opened) in
     cell_puts old c.step_to.new.self.builder begun c.add_cell_items.new.placing.builder c.step_to-2.new.self.builder
     c.close.new.self.builder c.args.cell.start c.args.cell.end

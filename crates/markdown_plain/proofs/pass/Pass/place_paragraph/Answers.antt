@@ -60,7 +60,8 @@ step_to-requires-2 c =
     may_step c.add_lines.new.placing.builder c.paragraph_end.result
     (omega (arith, end, ends.0, ap (λ (b : BuilderView). b.at) filled))
     (subst (λ t. IsCharBoundary t c.paragraph_end.result)
-    (sym (ap (λ (b : BuilderView). b.text) filled ∙ (is.text ∙ c.step_to.ensures.text)))
+    (sym (ap (λ (b : BuilderView). b.text) filled ∙
+    (is.text ∙ ap (λ (b : BuilderView). b.text) c.step_to.ensures.steps)))
     (rw end ends.1)) (λ none. is.inside.some (sym (ap (λ (b : BuilderView). b.blocks) filled) ∙ none))
 
 -- no block is closed before
@@ -121,10 +122,11 @@ returns-clause-tree c = λ sources marked b are some first end.
     let start = ap (λ (l : HeldLine). l.start) c.index.ensures ∙ t.is.start in
     let braces_are : c.last_braces.result ≡ heading_braces pass.syntax heading lines =
     c.last_braces.ensures.value sources c.args.from
-    (subst (λ tx. AreTextLines tx pass.lines.items sources) (sym c.step_to.ensures.text) are) c.requires.some in
+    (subst (λ tx. AreTextLines tx pass.lines.items sources)
+    (sym (ap (λ (b : BuilderView). b.text) c.step_to.ensures.steps)) are) c.requires.some in
     let task = c.task_left.ensures ∙ first in
     let begun = c.in_ok-open_text.ensures.leaf c.last_braces.ensures.stand in
-    let same_text = is.text ∙ c.step_to.ensures.text in
+    let same_text = is.text ∙ ap (λ (b : BuilderView). b.text) c.step_to.ensures.steps in
     let items = c.in_ok-add_lines.ensures.items sources
     (subst (λ tx. AreTextLines tx c.deref.result.now sources) (sym same_text) (rw c.deref.ensures.value are)) (record {
       some = some;

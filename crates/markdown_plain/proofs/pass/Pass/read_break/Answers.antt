@@ -21,7 +21,7 @@ returns c = record {
       (sym may.found.begins ∙ sym (ap (λ (v : BuilderView). v.at) step)) (sym has.left.is.rest.next) in
       ended_in_room may.s room now c.args.rest.now may.source _ may.blocks b has
       (keeps_leaf room now c.add_thematic_break.ensures.same
-      (c.in_ok-add_thematic_break.ensures.text ∙ c.step_to.ensures.text))
+      (c.in_ok-add_thematic_break.ensures.text ∙ ap (λ (b : BuilderView). b.text) c.step_to.ensures.steps))
       (record { filled = refl; ends = refl }) refl refl (sym has.left.is.rest.next) leaf refl;
   tables = search rules;
 }

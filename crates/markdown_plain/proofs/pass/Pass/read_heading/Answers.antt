@@ -18,13 +18,15 @@ returns c = record {
       let step = c.step_to.ensures.steps in
       let has = c.in_ok-make_room_for.ensures.room _ _ _ may refl tt in
       let leaf = c.in_ok-add_heading.ensures.leaf
-      (subst (λ text. BracesStand text c.args.heading.braces) (sym (c.step_to.ensures.text ∙ room_kept may has))
+      (subst (λ text. BracesStand text c.args.heading.braces)
+      (sym (ap (λ (b : BuilderView). b.text) c.step_to.ensures.steps ∙ room_kept may has))
       may.stands) may.s has.frames has.inside b
       (built_at may.s room.placing.builder c.step_to.new.self.builder c.args.at has.frames has.inside step has.built)
       (sym (ap (λ (r : Source). r.syntax) has.may.source)) refl
       (sym may.found.begins ∙ sym (ap (λ (v : BuilderView). v.at) step)) (sym has.left.is.rest.next) in
       ended_in_room may.s room now c.args.rest.now may.source _ may.blocks b has
-      (keeps_leaf room now c.add_heading.ensures.same (c.in_ok-add_heading.ensures.text ∙ c.step_to.ensures.text))
+      (keeps_leaf room now c.add_heading.ensures.same
+      (c.in_ok-add_heading.ensures.text ∙ ap (λ (b : BuilderView). b.text) c.step_to.ensures.steps))
       (record { filled = refl; ends = refl }) refl refl (sym has.left.is.rest.next) leaf refl;
   tables = search rules;
 }
