@@ -45,7 +45,7 @@ use Rattle.markdown_plain.proofs.ParagraphTreesLemmas.{if_some, range_byte, rang
 
 -- ---- what a paragraph is divided into
 
-differs : (n m : ℕ) → (n ≡ m → ⊥) → (n == m) ≡ false
+pub differs : (n m : ℕ) → (n ≡ m → ⊥) → (n == m) ≡ false
 differs n m other = grind (arith, nat_tests)
 
 -- a definition takes a line or more

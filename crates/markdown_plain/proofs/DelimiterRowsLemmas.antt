@@ -50,7 +50,7 @@ use Rattle.markdown_lines.specs.Lines.{is_space_or_tab}
 use Rattle.markdown_lines.specs.declared.position.Position.{Position}
 use Rattle.markdown_lines.specs.declared.space.Space.{Space as Read}
 use Rattle.markdown_block_rules.specs.BlockRules.{lines_end as last_next}
-use Rattle.markdown_plain.proofs.DefinitionsLemmas.{as_many, filled_of, first_empty, less_differs, positive}
+use Rattle.markdown_plain.proofs.DefinitionsLemmas.{as_many, differs, filled_of, first_empty, less_differs, positive}
 use Rattle.markdown_plain.proofs.ClosableLemmas.{end_of_last}
 use Rattle.markdown_plain.proofs.LeafTreesLemmas.{on_test}
 use Rattle.markdown_plain.proofs.ReachedFramesLemmas.{space_alike}
@@ -490,20 +490,17 @@ no_row_at text at stop b there black other less more =
         let over : stop - at ≡ 0 = grind (arith, nat_tests) in
         ap (row_of text at) (ap (λ n. take n (drop at text)) over)
 
-unlike : (n m : ℕ) → (n ≡ m → ⊥) → (n == m) ≡ false
-unlike n m differ = grind (arith, nat_tests)
-
 -- the same, by what it is not
 pub no_row_byte : (text : List ℕ) (at stop b : ℕ) → Some b ≡ slice_get text at → is_row_white b ≡ false
     → (b ≡ hyphen → ⊥) → (b ≡ colon → ⊥) → (b ≡ pipe → ⊥) → delimiter_row_at text at stop ≡ None
 no_row_byte text at stop b there black more less other =
-    no_row_at text at stop b there black (unlike b pipe other) (unlike b colon less) (unlike b hyphen more)
+    no_row_at text at stop b there black (differs b pipe other) (differs b colon less) (differs b hyphen more)
 
 -- a byte that is none of these is no white space of rows
 pub is_black : (b : ℕ) → is_space_or_tab b ≡ false → (b ≡ 11 → ⊥) → nat_eq b 12 ≡ false → is_row_white b ≡ false
 is_black b space less more =
     or_from (is_space_or_tab b || (b == 11)) (b == 12)
-    (or_from (is_space_or_tab b) (b == 11) space (unlike b 11 less)) more
+    (or_from (is_space_or_tab b) (b == 11) space (differs b 11 less)) more
 
 -- ---- the line after it as a delimiter row
 

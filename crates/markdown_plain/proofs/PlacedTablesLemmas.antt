@@ -67,7 +67,7 @@ use Rattle.markdown_plain.proofs.LeafTreesLemmas.{get_last, no_text, trees_last,
 use Rattle.markdown_plain.proofs.LinedLeavesLemmas.{filled_leaf, has_its_text, leaf_end, more_in_first, shown_alone}
 use Rattle.markdown_plain.proofs.LinedLeavesLemmas.{shown_of_kind}
 use Rattle.markdown_plain.proofs.OpenListsLemmas.{same_touched, closed_separated, ends_more, loose_by_last, same_last}
-use Rattle.markdown_plain.proofs.BlankStandingLemmas.{before_last, next_after}
+use Rattle.markdown_plain.proofs.BlankStandingLemmas.{before_last, next_after, none_inside}
 use Rattle.markdown_plain.proofs.FramesLemmas.{goes_on_last, last_goes_on, reached_parts}
 use Rattle.markdown_plain.proofs.OpenedFramesLemmas.{line_keeps, earlier_touched, quotes_touched}
 use Rattle.markdown_plain.proofs.ReachedFramesLemmas.{open_are_containers}
@@ -79,10 +79,6 @@ use Rattle.markdown_plain.proofs.ReadyTextsLemmas.{untabled_line}
 -- ---- a last block that has ended
 
 -- all open containers go on in a line
-pub none_inside : (frames : List Frame) → are_none frames ≡ true → frames ≡ []
-none_inside [] none = refl
-none_inside (f ∷ frames) none = absurd (true≢false (sym none))
-
 pub some_inside : (frames : List Frame) → are_none frames ≡ false → frames ≡ [] → ⊥
 some_inside [] some none = true≢false some
 some_inside (f ∷ frames) some none = cc (none)

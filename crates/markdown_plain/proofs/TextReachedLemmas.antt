@@ -730,11 +730,11 @@ text_reached s pass line found before source utf8 by shows off =
 
 -- ---- outside all blocks
 
-no_frames : (texts : List (List ℕ)) (blocks leaf : List OpenBlock) (frames : List Frame) → AreOpen texts blocks frames
-    → [] ≡ blocks ++ leaf → (frames ≡ []) × (leaf ≡ [])
-no_frames texts [] leaf [] are none = (refl, sym none)
-no_frames texts [] leaf (f ∷ frames) are none = absurd are
-no_frames texts (block ∷ blocks) leaf frames are none = cc (none)
+nothing_open : (texts : List (List ℕ)) (blocks leaf : List OpenBlock) (frames : List Frame)
+    → AreOpen texts blocks frames → [] ≡ blocks ++ leaf → (frames ≡ []) × (leaf ≡ [])
+nothing_open texts [] leaf [] are none = (refl, sym none)
+nothing_open texts [] leaf (f ∷ frames) are none = absurd are
+nothing_open texts (block ∷ blocks) leaf frames are none = cc (none)
 
 -- where no block is open, the line is text where its first byte shows that
 pub text_outside : (s : Source) (pass : Pass) (line : Line) (before : Before) (source : SourceLine)
@@ -745,7 +745,7 @@ pub text_outside : (s : Source) (pass : Pass) (line : Line) (before : Before) (s
 unfolding reached
 text_outside s pass line before source stands is none position here nothing column shows =
     let opened = before_line s pass line before.frames before.inside before.last source stands is in
-    let frames = no_frames pass.placing.builder.texts opened.containers opened.leaf before.frames opened.are
+    let frames = nothing_open pass.placing.builder.texts opened.containers opened.leaf before.frames opened.are
     (sym none ∙ opened.blocks) in
     let left : source.left ≡ left_from pass.placing.builder.text position line.stop =
     sym is.left ∙ rw (here, nothing, column) refl in

@@ -12,7 +12,8 @@ use Rattle.markdown_plain.specs.declared.containers.Reached.{Reached}
 use Rattle.markdown_plain.specs.declared.pass.Pass.{Pass}
 use Rattle.markdown_lines.specs.declared.line.Line.{Line}
 use Rattle.markdown_plain.proofs.AddedCellsLemmas.{counted_on, next_as_line}
-use Rattle.markdown_plain.proofs.PlacedTablesLemmas.{blank_leaves_off, goes_off_as, leaf_no_table, none_inside}
+use Rattle.markdown_plain.proofs.BlankStandingLemmas.{none_inside}
+use Rattle.markdown_plain.proofs.PlacedTablesLemmas.{blank_leaves_off, goes_off_as, leaf_no_table}
 use Rattle.markdown_plain.proofs.PlacedTablesLemmas.{nothing_leaves_off, some_inside}
 use Rattle.markdown_plain.proofs.pass.Pass.last_goes_on.Goals.{else-reached-line-via-then-reached-line+else-is_in_table}
 use Rattle.markdown_plain.proofs.pass.Pass.last_goes_on.Goals.{else-reached-line-via-else-reached-line}

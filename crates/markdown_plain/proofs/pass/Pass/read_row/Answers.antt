@@ -10,7 +10,7 @@ use Rattle.markdown_lines.specs.declared.line.Line.{Line}
 use Rattle.markdown_plain.specs.Readable.{MayReadOn}
 use Rattle.markdown_plain.specs.ReachedTables.{ReachesTable}
 use Rattle.markdown_plain.specs.declared.containers.Reached.{Reached}
-use Rattle.markdown_plain.proofs.PlacedTablesLemmas.{none_inside}
+use Rattle.markdown_plain.proofs.BlankStandingLemmas.{none_inside}
 use Rattle.markdown_plain.specs.TableRows.{AddsRow, MayAddRow, is_text_start, may_be_row}
 use Rattle.markdown_plain.specs.declared.pass.Pass.{Pass}
 use Rattle.markdown_plain.specs.TextLines.{held_line}
