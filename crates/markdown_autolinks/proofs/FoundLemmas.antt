@@ -12,11 +12,10 @@ use Rattle.markdown_autolinks.specs.AddressBytes.{are_white_pair, are_white_trip
 use Rattle.markdown_autolinks.specs.AddressBytes.{is_host, is_domain_at, is_mailbox_byte, is_white_at, is_white_byte}
 use Rattle.markdown_autolinks.specs.AddressBytes.{passing_from}
 use Rattle.markdown_autolinks.specs.Addresses.{address_after, address_end, address_found_at, address_scheme_length}
-use Rattle.markdown_autolinks.specs.Addresses.{domain_end, entity_left_out, first_address}
-use Rattle.markdown_autolinks.specs.Addresses.{first_address_from, is_after_letter, is_domain, is_end_mark, left_out}
-use Rattle.markdown_autolinks.specs.Addresses.{mail_address, mail_begin, mailbox_begin, may_begin_www, or_later}
-use Rattle.markdown_autolinks.specs.Addresses.{trimmed}
-use Rattle.markdown_autolinks.specs.Addresses.{web_address, www_address}
+use Rattle.markdown_autolinks.specs.Addresses.{domain_end, entity_left_out, first_address, first_address_from}
+use Rattle.markdown_autolinks.specs.Addresses.{is_after_letter, is_domain, is_end_mark, left_out, mail_address}
+use Rattle.markdown_autolinks.specs.Addresses.{mail_begin, mailbox_begin, may_begin_www, or_later, trimmed, web_address}
+use Rattle.markdown_autolinks.specs.Addresses.{www_address}
 use Rattle.markdown_autolinks.specs.declared.address.Address.{Address}
 use Rattle.markdown_autolinks.specs.declared.address.AddressForm.{AddressForm}
 use Rattle.markdown_autolinks.specs.declared.address.AddressForm.TheVariants as forms

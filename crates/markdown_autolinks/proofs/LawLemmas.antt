@@ -1,15 +1,14 @@
 -- What the links that are added leave of events.
-use Rattle.std.proofs.Common.{◌≡◌, ◌≤◌, ◌+◌, ◌-◌, ◌∙◌, ℕ, zero, suc, Bool, true, false, List, [], ◌∷◌}
-use Rattle.std.proofs.Common.{◌++◌}
-use Rattle.std.proofs.Common.{refl, sym, ap, subst, map, length, take, drop, append_assoc, append-nil, flat_map}
+use Rattle.std.proofs.Common.{◌≡◌, ◌≤◌, ◌+◌, ◌-◌, ◌∙◌, ℕ, zero, suc, Bool, true, false, List, [], ◌∷◌, ◌++◌, refl, sym}
+use Rattle.std.proofs.Common.{ap, subst, map, length, take, drop, append_assoc, append-nil, flat_map, Option, Some}
+use Rattle.std.proofs.Common.{None, arith, length-drop}
 use Rattle.std.specs.Prelude.{◌&&◌, nat_le, slice_range, if◌then◌else◌}
 use Rattle.std.specs.List.{AllByRecursion}
 use Rattle.std.specs.declared.ops.Range.{Range}
-use Rattle.std.proofs.Common.{Option, Some, None, arith, length-drop}
 use Rattle.std.proofs.lemmas.Grind.{flat_map-append}
 use Rattle.std.proofs.lemmas.List.{append_cancel_right, map-append, take-append-drop}
 use Rattle.std.proofs.lemmas.List.Folds.{drop_split}
-use Rattle.markdown_autolinks.specs.Addresses.{addresses_after, first_address}
+use Rattle.markdown_autolinks.specs.Addresses.{addresses_after, first_address, address_destination}
 use Rattle.markdown_autolinks.proofs.FoundLemmas.{first_lies}
 use Rattle.markdown_autolinks.proofs.RunLemmas.{addresses_left, drops_left, events_linked, events_merged, left_begins}
 use Rattle.markdown_autolinks.proofs.RunLemmas.{left_ends, searched_drop}
@@ -17,18 +16,15 @@ use Rattle.markdown_base.specs.Event.{TagView, end, link, start, tag_end, text}
 use Rattle.markdown_base.specs.declared.tag.TagEnd.{TagEnd}
 use Rattle.markdown_base.specs.declared.tag.TagEnd.TheVariants as closes
 use Rattle.markdown_out.specs.OutLaws.{RangedEvent}
-use Rattle.markdown_autolinks.specs.Addresses.{address_destination}
-use Rattle.markdown_autolinks.specs.LinkedEvents.{Texts, left_alone_after, texts_events}
-use Rattle.markdown_autolinks.specs.LinkedEvents.{with_addresses_after}
+use Rattle.markdown_autolinks.specs.LinkedEvents.{Texts, left_alone_after, texts_events, with_addresses_after}
 use Rattle.markdown_autolinks.specs.LinkedLaws.{AddedOutside, IsAddressOf, IsShownAsSearched, LinkedPiece}
 use Rattle.markdown_autolinks.specs.LinkedLaws.{LinksAreApart, NestingStays, Nests, NoLinkGetsIntoALink, NoLinkIn}
 use Rattle.markdown_autolinks.specs.LinkedLaws.{NothingLeftAlone, OnlyLinksAreAdded, Sign, adds, others, piece_events}
 use Rattle.markdown_autolinks.specs.LinkedLaws.{shows, signs, signs_of, stays, unless_text, untagged}
-use Rattle.markdown_autolinks.specs.LinkedRuns.{RunTextView, address_link_type, run_left, is_as_in_source}
-use Rattle.markdown_autolinks.specs.LinkedRuns.{is_of_source}
-use Rattle.markdown_autolinks.specs.LinkedRuns.{is_left_alone, link_over}
-use Rattle.markdown_autolinks.specs.LinkedRuns.{linked_events, merged_run, run_events, run_range, run_text}
-use Rattle.markdown_autolinks.specs.LinkedRuns.{searched_bytes, shown_bytes, take_run, text_of_run, text_unless_empty}
+use Rattle.markdown_autolinks.specs.LinkedRuns.{RunTextView, address_link_type, run_left, is_as_in_source, is_of_source}
+use Rattle.markdown_autolinks.specs.LinkedRuns.{is_left_alone, link_over, linked_events, merged_run, run_events}
+use Rattle.markdown_autolinks.specs.LinkedRuns.{run_range, run_text, searched_bytes, shown_bytes, take_run, text_of_run}
+use Rattle.markdown_autolinks.specs.LinkedRuns.{text_unless_empty}
 use Rattle.markdown_autolinks.specs.declared.address.Address.{Address}
 
 -- ---- the bytes of a run

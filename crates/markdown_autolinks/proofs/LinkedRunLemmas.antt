@@ -8,18 +8,17 @@ use Rattle.markdown_base.specs.Event.{text}
 use Rattle.markdown_base.specs.declared.event.Event.{Event}
 use Rattle.markdown_base.specs.declared.fault.Fault.{Fault}
 use Rattle.markdown_base.specs.declared.fault.Fault.TheVariants.{Memory}
+use Rattle.markdown_base.proofs.ListLemmas.{cons-tail}
 use Rattle.markdown_out.specs.Merge.{Item}
 use Rattle.markdown_out.specs.MergeNext.{CanMerge}
 use Rattle.markdown_out.specs.OutLaws.{RangedEvent, StaysEnded}
 use Rattle.markdown_autolinks.specs.AutolinksLaws.{AreAllLinked, AreFirstLinked, AreLinkedUntil, AreFirstEvents}
-use Rattle.markdown_autolinks.specs.AutolinksLaws.{IsNewLinked}
-use Rattle.markdown_autolinks.specs.AutolinksLaws.{ReturnsLinked, events_read, event_read}
+use Rattle.markdown_autolinks.specs.AutolinksLaws.{IsNewLinked, ReturnsLinked, events_read, event_read}
 use Rattle.markdown_autolinks.specs.AutolinksNext.{CallsSource, GivesLinked, HasReturnedAll, IsRefused, LinkedState}
 use Rattle.markdown_autolinks.specs.AutolinksNext.{MayReadOn, PassesItem, SourceItem, most_to_come, item_read}
 use Rattle.markdown_autolinks.specs.AutolinksNext.{links_to_come, linked_steps, unless_ended}
 use Rattle.markdown_autolinks.specs.LinkedEvents.{Texts, items_with_addresses, left_alone_after, texts_events}
-use Rattle.markdown_autolinks.specs.LinkedEvents.{with_addresses}
-use Rattle.markdown_autolinks.specs.LinkedEvents.{with_addresses_after}
+use Rattle.markdown_autolinks.specs.LinkedEvents.{with_addresses, with_addresses_after}
 
 abbrev Placed : Type 0
 Placed = Event × Range ℕ
@@ -43,22 +42,19 @@ seen_events (e ∷ events) = ap (λ (xs : List RangedItem). Ok (event_read e) �
 ok_same : {x y : RangedEvent} {xs ys : List RangedItem} → Ok x ∷ xs ≡ Ok y ∷ ys → x ≡ y
 ok_same {x} {y} {xs} {ys} e = cc
 
-tail_same : {x y : RangedItem} {xs ys : List RangedItem} → x ∷ xs ≡ y ∷ ys → xs ≡ ys
-tail_same {x} {y} {xs} {ys} e = cc
-
 oks_same : (xs ys : List RangedEvent) → oks xs ≡ oks ys → xs ≡ ys
 oks_same [] [] e = refl
 oks_same [] (y ∷ ys) e = cc e
 oks_same (x ∷ xs) [] e = cc e
 oks_same (x ∷ xs) (y ∷ ys) e =
-    let head = ok_same e in let tail = oks_same xs ys (tail_same e) in cc
+    let head = ok_same e in let tail = oks_same xs ys (cons-tail e) in cc
 
 -- an error is no event
 no_error : (xs ys : List RangedEvent) (fault : Fault) (rest : List RangedItem) → oks xs ≡ oks ys ++ Err fault ∷ rest → ⊥
 no_error [] [] fault rest e = cc
 no_error [] (y ∷ ys) fault rest e = cc
 no_error (x ∷ xs) [] fault rest e = cc
-no_error (x ∷ xs) (y ∷ ys) fault rest e = no_error xs ys fault rest (tail_same e)
+no_error (x ∷ xs) (y ∷ ys) fault rest e = no_error xs ys fault rest (cons-tail e)
 
 -- events before an error are determined, and so is the error
 record AreSame (xs ys : List RangedEvent) (fault other : Fault) : Type 0 where
@@ -75,7 +71,7 @@ same_until [] (y ∷ ys) fault other more rest e = cc
 same_until (x ∷ xs) [] fault other more rest e = cc
 same_until (x ∷ xs) (y ∷ ys) fault other more rest e =
     let head = ok_same e in
-    let s = same_until xs ys fault other more rest (tail_same e) in
+    let s = same_until xs ys fault other more rest (cons-tail e) in
     let tail = s.events in
     record { events = cc; faults = s.faults }
 
@@ -85,7 +81,7 @@ first_of xs [] rest e = record { missing = xs; is = refl }
 first_of [] (y ∷ ys) rest e = cc e
 first_of (x ∷ xs) (y ∷ ys) rest e =
     let head : x ≡ y = ok_same e in
-    let f = first_of xs ys rest (tail_same e) in
+    let f = first_of xs ys rest (cons-tail e) in
     let tail = f.is in
     record { missing = f.missing; is = cc }
 
@@ -95,7 +91,7 @@ first_until xs [] fault more rest e = record { missing = xs; is = refl }
 first_until [] (y ∷ ys) fault more rest e = cc e
 first_until (x ∷ xs) (y ∷ ys) fault more rest e =
     let head : x ≡ y = ok_same e in
-    let f = first_until xs ys fault more rest (tail_same e) in
+    let f = first_until xs ys fault more rest (cons-tail e) in
     let tail = f.is in
     record { missing = f.missing; is = cc }
 

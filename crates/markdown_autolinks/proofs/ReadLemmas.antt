@@ -1,31 +1,25 @@
 -- What is read of a run of Texts, and what becomes of it among the items to come.
-use Rattle.std.proofs.Common.{◌≡◌, ◌∙◌, ℕ, zero, suc, Bool, true, false, List, [], ◌∷◌, ◌++◌}
-use Rattle.std.proofs.Common.{refl, sym, ap, subst, arith, length, map, Ok, Err, Option, Some, None, append_assoc}
-use Rattle.std.proofs.Common.{append-nil}
+use Rattle.std.proofs.Common.{◌≡◌, ◌∙◌, ℕ, zero, suc, Bool, true, false, List, [], ◌∷◌, ◌++◌, refl, sym, ap, subst}
+use Rattle.std.proofs.Common.{arith, length, map, Ok, Err, Option, Some, None, append_assoc, append-nil, ◌≢◌, inl}
+use Rattle.std.proofs.Common.{length-append}
 use Rattle.std.specs.Iterator.{Yields, YieldsThen}
 use Rattle.std.specs.declared.ops.Range.{Range}
-use Rattle.std.proofs.lemmas.List.{map-append}
-use Rattle.std.specs.Prelude.{◌&&◌, slice_range}
-use Rattle.std.proofs.Common.{◌≢◌, drop, inl, length-append}
-use Rattle.std.proofs.lemmas.List.{length-map}
+use Rattle.std.proofs.lemmas.List.{map-append, length-map}
+use Rattle.std.specs.Prelude.{◌&&◌, slice_range, IfSome, is_none, option_to_list}
 use Rattle.markdown_base.specs.Event.{EventView, event_view, text}
 use Rattle.markdown_autolinks.specs.LinkedEvents.{Texts, items_with_addresses, left_alone_after, texts_events}
 use Rattle.markdown_autolinks.specs.LinkedRuns.{RunTextView, is_as_in_source, is_of_source, merged_run, run_events}
-use Rattle.markdown_autolinks.specs.LinkedRuns.{run_text}
-use Rattle.markdown_autolinks.specs.LinkedRuns.{searched_bytes, text_of_run}
+use Rattle.markdown_autolinks.specs.LinkedRuns.{run_text, searched_bytes, text_of_run}
 use Rattle.markdown_autolinks.specs.Addresses.{first_address}
 use Rattle.markdown_autolinks.proofs.RunLemmas.{events_merged, merged_many}
 use Rattle.markdown_base.specs.declared.event.Event.{Event}
-use Rattle.std.specs.Prelude.{IfSome, is_none, option_to_list}
 use Rattle.markdown_base.specs.declared.fault.Fault.{Fault}
 use Rattle.markdown_out.specs.Merge.{Item}
 use Rattle.markdown_autolinks.specs.AutolinksLaws.{events_read, event_read}
 use Rattle.markdown_autolinks.specs.AutolinksNext.{CallsSource, GivesLinked, LinkedState, PassesItem, SourceItem}
-use Rattle.markdown_autolinks.specs.AutolinksNext.{item_read}
-use Rattle.markdown_autolinks.specs.AutolinksNext.{unless_ended}
+use Rattle.markdown_autolinks.specs.AutolinksNext.{item_read, unless_ended}
 use Rattle.markdown_autolinks.specs.RunRead.{AreTexts, Fills, NextIsRead, RunIsRead, TextsAreRead, is_text}
-use Rattle.markdown_autolinks.specs.RunRead.{is_text_item}
-use Rattle.markdown_autolinks.specs.RunRead.{items_after, left_alone_after_item, shown_text, texts_of}
+use Rattle.markdown_autolinks.specs.RunRead.{is_text_item, items_after, left_alone_after_item, shown_text, texts_of}
 
 abbrev Placed : Type 0
 Placed = Event × Range ℕ
@@ -340,17 +334,3 @@ module _ {S : Type 0} (steps : S → Option SourceItem → S → Type 0) where
         (f.keeps later ∙ ap (λ (xs : List (Item (Range ℕ))).
         xs ++ items_with_addresses t.source t.inside [] (unless_ended t.over later)) kept);
   })
-
--- a queue from which nothing was popped is empty
-pub nothing_popped : {A : Type 0} (r : Option A) (old now : List A) → r ≡ None → old ≡ option_to_list r ++ now
-    → now ≡ drop 1 old → old ≡ []
-nothing_popped r [] now none items rest = refl
-nothing_popped r (x ∷ old) now none items rest =
-    let popped = rw (none, rest) at items in
-    absurd (omega (arith, ap length popped))
-
-pub nothing_kept : {A : Type 0} (r : Option A) (old now : List A) → r ≡ None → old ≡ option_to_list r ++ now
-    → now ≡ drop 1 old → now ≡ []
-nothing_kept {A} r old now none items rest =
-    let empty = nothing_popped r old now none items rest in
-    rest ∙ ap (λ (xs : List A). drop 1 xs) empty

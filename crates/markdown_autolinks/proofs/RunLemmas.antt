@@ -1,30 +1,25 @@
 -- Runs of Texts: their bytes and ranges, and the first bytes of them.
 use Rattle.std.proofs.Common.{◌≡◌, ◌≢◌, ◌<◌, ◌≤◌, ◌+◌, ◌-◌, ◌∙◌, ℕ, zero, suc, Bool, true, false, List, [], ◌∷◌, ◌++◌}
 use Rattle.std.proofs.Common.{refl, sym, ap, subst, arith, length, map, drop, Option, Some, None, append_assoc}
-use Rattle.std.proofs.Common.{append-nil}
-use Rattle.std.proofs.Common.{slice_get, IsUtf8, length-append, length-drop}
+use Rattle.std.proofs.Common.{append-nil, slice_get, IsUtf8, length-append, length-drop, Ok, drop-drop}
 use Rattle.std.specs.Prelude.{nat_le}
 use Rattle.std.specs.Str.{IsCharBoundary}
 use Rattle.std.specs.declared.ops.Range.{Range}
-use Rattle.std.proofs.Common.{Ok, drop-drop}
 use Rattle.std.proofs.lemmas.Str.{IsCharBoundary-end}
-use Rattle.std.proofs.lemmas.List.{map-append}
+use Rattle.std.proofs.lemmas.List.{map-append, get_or-drop, get_or-append_right, get_or_append_left, drop-append-le}
 use Rattle.markdown_base.specs.declared.tag.LinkType.{LinkType}
 use Rattle.markdown_out.specs.Merge.{Item}
 use Rattle.markdown_out.specs.OutLaws.{RangedEvent}
 use Rattle.std.proofs.lemmas.Bool.Decides.{nat_tests}
-use Rattle.std.proofs.lemmas.List.{get_or-drop, get_or-append_right, get_or_append_left, drop-append-le}
 use Rattle.std.proofs.Math.Seq.{drop-append-add}
 use Rattle.markdown_autolinks.specs.AddressBytes.{byte_at}
 use Rattle.markdown_autolinks.specs.Addresses.{address_destination, addresses_after, addresses_in, first_address}
 use Rattle.markdown_autolinks.specs.declared.address.Address.{Address}
 use Rattle.markdown_autolinks.proofs.CutLemmas.{boundary_cut}
 use Rattle.markdown_autolinks.proofs.FoundLemmas.{LiesIn, first_lies}
-use Rattle.markdown_autolinks.specs.LinkedRuns.{RunTextView, run_left, first_part, is_cut_at, last_part}
-use Rattle.markdown_autolinks.specs.LinkedRuns.{run_span}
-use Rattle.markdown_autolinks.specs.LinkedRuns.{run_range}
-use Rattle.markdown_autolinks.specs.LinkedRuns.{address_link_type, link_over, merged_run, run_events, run_with}
-use Rattle.markdown_autolinks.specs.LinkedRuns.{linked_events, searched_bytes, take_run, text_of_run}
+use Rattle.markdown_autolinks.specs.LinkedRuns.{RunTextView, run_left, first_part, is_cut_at, last_part, run_span}
+use Rattle.markdown_autolinks.specs.LinkedRuns.{run_range, address_link_type, link_over, merged_run, run_events}
+use Rattle.markdown_autolinks.specs.LinkedRuns.{run_with, linked_events, searched_bytes, take_run, text_of_run}
 use Rattle.markdown_autolinks.specs.RunRead.{FitRanges, FitsRange, run_text_view}
 use Rattle.markdown_autolinks.specs.declared.runs.RunText.{RunText}
 

@@ -1,7 +1,6 @@
 -- Where addresses end: what is left out leaves the counts of parentheses.
 use Rattle.std.proofs.Common.{◌≡◌, ◌≢◌, ◌<◌, ◌≤◌, ◌+◌, ◌-◌, ◌∙◌, ◌⊎◌, inl, inr, ℕ, zero, suc, Bool, true, false, List}
-use Rattle.std.proofs.Common.{refl, sym}
-use Rattle.std.proofs.Common.{arith, ap}
+use Rattle.std.proofs.Common.{refl, sym, arith, ap}
 use Rattle.std.specs.Prelude.{◌==◌, ◌&&◌, nat_le, nat_lt, if◌then◌else◌}
 use Rattle.std.specs.Char.{is_ascii_alphabetic}
 use Rattle.std.proofs.lemmas.Bool.Decides.{nat_tests}

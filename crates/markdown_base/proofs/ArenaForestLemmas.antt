@@ -1,7 +1,8 @@
 -- Laws of the forest that the links of an arena represent: it is found, there is at most one, and it opens node by
 -- node.
-use Rattle.std.proofs.Common.{◌≡◌, ℕ, ◌<◌, ◌≤◌, max, Option, Some, None, suc, zero, refl, sym, ◌∙◌, arith}
-use Rattle.markdown_base.specs.Forest.{Forest, nil, node, Each}
+use Rattle.std.proofs.Common.{◌≡◌, ℕ, ◌<◌, ◌≤◌, max, Option, Some, None, suc, zero, refl, sym, ◌∙◌, arith, length}
+use Rattle.std.proofs.lemmas.List.{length-append}
+use Rattle.markdown_base.specs.Forest.{Forest, nil, node, Each, preorder}
 use Rattle.markdown_base.specs.ArenaForest.{Links, Spells, followed, forest_at}
 use Rattle.markdown_base.specs.ArenaWalk.{Reaches}
 
@@ -74,3 +75,12 @@ followed-none (suc n) k = refl
 pub forest_at-none : (k : Links) → forest_at k None ≡ nil
 unfolding forest_at
 forest_at-none k = followed-none k.size k
+
+-- a forest is no higher than its labels are many, and one that is found no higher than the arena is large
+pub height-preorder : (f : Forest ℕ) → height f ≤ length (preorder f)
+height-preorder nil = omega arith
+height-preorder (node i below after) = simp length-append (omega (arith, height-preorder below, height-preorder after))
+
+pub forest_at-height : (k : Links) (l : Option ℕ) → height (forest_at k l) ≤ k.size
+unfolding forest_at
+forest_at-height k l = height-followed k.size k l

@@ -18,7 +18,7 @@ length-changed_at zero change (n ∷ nodes) = refl
 length-changed_at (suc ix) change (n ∷ nodes) = ap suc (length-changed_at ix change nodes)
 
 -- a number below one size is below a larger one
-below_more : (o : Option ℕ) (a b : ℕ) → a ≤ b → IfSome o (λ ix. ix < a) → IfSome o (λ ix. ix < b)
+pub below_more : (o : Option ℕ) (a b : ℕ) → a ≤ b → IfSome o (λ ix. ix < a) → IfSome o (λ ix. ix < b)
 below_more None a b l h = h
 below_more (Some x) a b l h = omega (arith, l, h)
 

@@ -20,7 +20,7 @@ pub trees_at-fits : (nodes : List (Node Item)) (l : Option ℕ) (f : Forest ℕ)
 trees_at-fits nodes l f s h = ap (relabelled (numbered nodes)) (forest_at-fits (links_of nodes) l f s h)
 
 -- the first of these trees is that of the link's node
-first_spelled : (nodes : List (Node Item)) (l : Option ℕ) (f : Forest ℕ) → Spells (links_of nodes) l f
+pub first_spelled : (nodes : List (Node Item)) (l : Option ℕ) (f : Forest ℕ) → Spells (links_of nodes) l f
     → option_map (numbered nodes) l ≡ first_root (relabelled (numbered nodes) f)
 first_spelled nodes l nil s = rw s refl
 first_spelled nodes l (node ix below after) s = rw s.0 refl

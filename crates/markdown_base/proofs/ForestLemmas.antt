@@ -1,5 +1,6 @@
 -- Laws of forests and of facts that hold throughout them.
 use Rattle.std.proofs.Common.{◌≡◌, List, [], ◌∷◌, ◌++◌, map, refl, sym, ap, ◌∙◌}
+use Rattle.std.specs.Prelude.{⊤}
 use Rattle.std.specs.List.{AllByRecursion}
 use Rattle.std.proofs.lemmas.List.{map-append}
 use Rattle.markdown_base.specs.Forest.{Forest, nil, node, Throughout, Each, preorder, roots, relabelled}
@@ -78,3 +79,8 @@ Each-preorder p nil a = tt
 Each-preorder p (node x below after) a =
     let parts = All-parted p (preorder below) (preorder after) a.1 in
     (a.0, Each-preorder p below parts.0, Each-preorder p after parts.1)
+
+-- nothing is required of each label
+pub Each-always : {A : Type 0} (f : Forest A) → Each (λ a. ⊤) f
+Each-always nil = tt
+Each-always (node a below after) = (tt, Each-always below, Each-always after)

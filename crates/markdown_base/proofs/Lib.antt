@@ -6,3 +6,6 @@ pub mod ArenaForestLemmas
 pub mod ForestLemmas
 pub mod WellFormedLemmas
 pub mod ArenaRulesLemmas
+pub mod BoolLemmas
+pub mod ListLemmas
+pub mod OptionLemmas

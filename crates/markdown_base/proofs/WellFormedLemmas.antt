@@ -1,13 +1,14 @@
 -- Laws of the parts that a block result refers to: they exist, also where there are more.
-use Rattle.std.proofs.Common.{ℕ, ◌<◌, ◌≤◌, List, ◌++◌, Option, Some, None, arith}
-use Rattle.std.specs.Prelude.{IfSome}
+use Rattle.std.proofs.Common.{◌≡◌, true, false, ℕ, ◌<◌, ◌≤◌, List, ◌++◌, Option, Some, None, arith}
+use Rattle.std.specs.Prelude.{IfSome, IsTrue}
 use Rattle.std.specs.List.{AllByRecursion, filter_map, cons_option}
 use Rattle.std.proofs.lemmas.List.Elements.{filter_map-append}
 use Rattle.markdown_base.specs.declared.item.ItemBody.{ItemBody}
 use Rattle.markdown_base.specs.BlockTree.{Numbered}
 use Rattle.markdown_base.specs.Forest.{Forest, nil, node, Each, preorder, first_root}
-use Rattle.markdown_base.specs.Item.{text_named, alignments_named}
-use Rattle.markdown_base.specs.WellFormed.{PartCounts, PartsAreNamed, KeepsRules, AllKeepRules, all_named}
+use Rattle.markdown_base.specs.Item.{text_named, alignments_named, is_inline, is_childless, is_open}
+use Rattle.markdown_base.specs.WellFormed.{run_character, PartCounts, PartsAreNamed, KeepsRules, AllKeepRules}
+use Rattle.markdown_base.specs.WellFormed.{all_named}
 use Rattle.markdown_base.proofs.ForestLemmas.{Throughout-weaker, All-append}
 
 -- there are at least as many parts of each kind
@@ -66,3 +67,10 @@ alignments_there text counts f t =
     all_named-Each alignments_named (λ ix. ix < counts.alignments) f
     (Throughout-weaker (λ a below after. KeepsRules text counts a below (first_root after)) _
     (λ a below after k. k.parts_are_named.alignments) f t)
+
+-- an inline item has no children, and one that is not open is no character of a delimiter run
+pub inline_childless : (b : ItemBody) → is_inline b ≡ true → IsTrue (is_childless b)
+inline_childless b h = grind (arith)
+
+pub closed_no_run : (b : ItemBody) → is_open b ≡ false → run_character b ≡ None
+closed_no_run b h = grind (arith)

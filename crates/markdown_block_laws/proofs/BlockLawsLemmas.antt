@@ -1,6 +1,5 @@
 -- Proofs of the sentences about one line more.
-use Rattle.std.proofs.Common.{◌≡◌, not, [], Some, None, Option, Bool, refl, sym, ap, ◌∙◌, true, false}
-use Rattle.std.proofs.Common.{◌&&◌, ◌||◌}
+use Rattle.std.proofs.Common.{◌≡◌, not, [], Some, None, Option, Bool, refl, sym, ap, ◌∙◌, true, false, ◌&&◌}
 use Rattle.std.proofs.lemmas.Bool.{true≢false}
 use Rattle.std.proofs.lemmas.Iterator.Adapters.{option_map_id}
 use Rattle.std.specs.Prelude.{unwrap_or, if◌then◌else◌}
@@ -8,12 +7,11 @@ use Rattle.std.specs.Option.{option_map}
 use Rattle.markdown_base.specs.Forest.{Forest, nil, node}
 use Rattle.markdown_lines.specs.declared.block_start.Before.TheVariants as paragraph
 use Rattle.markdown_base.specs.Source.{Source}
+use Rattle.markdown_base.proofs.BoolLemmas.{or_first, or_second}
 use Rattle.markdown_lines.specs.BlockBeginnings.{begins}
-use Rattle.markdown_block_rules.specs.BlockGrowth.{Block, Kind, block_with, goes_on, is_nil, is_text}
-use Rattle.markdown_block_rules.specs.BlockGrowth.{lazily, line_block, paragraph_leaf}
-use Rattle.markdown_block_rules.specs.BlockGrowth.{with_lazy, with_line, with_lazy_text}
-use Rattle.markdown_block_laws.specs.BlockLaws.{no_quoted, one_quoted, to_line, rest_of, lone}
-use Rattle.markdown_block_laws.specs.BlockLaws.{with_lines}
+use Rattle.markdown_block_rules.specs.BlockGrowth.{Block, Kind, block_with, goes_on, is_nil, is_text, lazily}
+use Rattle.markdown_block_rules.specs.BlockGrowth.{line_block, paragraph_leaf, with_lazy, with_line, with_lazy_text}
+use Rattle.markdown_block_laws.specs.BlockLaws.{no_quoted, one_quoted, to_line, rest_of, lone, with_lines}
 use Rattle.markdown_block_laws.specs.BlockLaws.{MarkedLineGoesIntoQuote, MarkedLinesGoIntoQuote, BlankLineEndsQuote}
 use Rattle.markdown_block_laws.specs.BlockLaws.{MarkerBeforeTextMayBeLeftOut, IndentedLineGoesIntoItem}
 use Rattle.markdown_block_laws.specs.BlockLaws.{is_paragraph_block, end_with_paragraph}
@@ -71,14 +69,6 @@ indentation_left_out s list b marker indent below grown deep bare rest lists is 
     sym (lazily_same (rest_of deep rest) bare below same) ∙ grows in
     rw (lists, is, indented, bare_ends, deep_full, full, begins_text, more, goes, next) refl
 
-left_is_false : (p q : Bool) → (p || q) ≡ false → p ≡ false
-left_is_false false q neither = refl
-left_is_false true q neither = neither
-
-right_is_false : (p q : Bool) → (p || q) ≡ false → q ≡ false
-right_is_false false q neither = neither
-right_is_false true q neither = absurd (true≢false neither)
-
 -- a block that is no paragraph takes no text
 no_text : (l : SourceLine) (b : Block) (below : Forest Block) (kind : Kind)
     → is_paragraph_block kind ≡ false → with_lazy_text l b below kind ≡ None
@@ -91,8 +81,8 @@ no_paragraph l nil none = refl
 no_paragraph l (node b below nil) none =
     rw (
       no_text l b below b.kind
-          (left_is_false (is_paragraph_block b.kind) (end_with_paragraph below) none),
-      no_paragraph l below (right_is_false (is_paragraph_block b.kind) (end_with_paragraph below) none),
+          (or_first (is_paragraph_block b.kind) (end_with_paragraph below) none),
+      no_paragraph l below (or_second (is_paragraph_block b.kind) (end_with_paragraph below) none),
     ) refl
 no_paragraph l (node b below (node c inside after)) none = rw (no_paragraph l (node c inside after) none) refl
 

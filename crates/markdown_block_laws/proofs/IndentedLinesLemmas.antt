@@ -1,25 +1,23 @@
 -- Lines with a list marker, or with the indentation of an item.
-use Rattle.std.proofs.Common.{◌≡◌, ℕ, suc, ◌<◌, Bool, true, false, List, [], ◌∷◌, ◌++◌, Option, Some, None}
-use Rattle.std.proofs.Common.{subst, refl, ap, ◌∙◌, arith, length, not, ◌&&◌, ◌||◌}
+use Rattle.std.proofs.Common.{◌≡◌, ℕ, suc, ◌<◌, Bool, true, false, List, [], ◌∷◌, ◌++◌, Option, Some, None, subst, refl}
+use Rattle.std.proofs.Common.{ap, ◌∙◌, arith, length, not, ◌&&◌, ◌||◌}
 use Rattle.std.specs.Prelude.{⊤, unwrap_or}
 use Rattle.std.specs.Option.{option_map, option_or}
+use Rattle.std.proofs.lemmas.Bool.{and_right}
 use Rattle.markdown_base.specs.Forest.{Forest, nil, node}
 use Rattle.markdown_base.specs.declared.tag.Alignment.{Alignment}
 use Rattle.markdown_lines.specs.declared.block_start.Before.TheVariants as paragraph
 use Rattle.markdown_lines.specs.BlockBeginnings as line
 use Rattle.markdown_base.specs.Source.{Source}
 use Rattle.markdown_lines.specs.BlockBeginnings.{begins}
-use Rattle.markdown_block_rules.specs.BlockGrowth.{Block, begun_in, block_with, container_with}
-use Rattle.markdown_block_rules.specs.BlockGrowth.{goes_on, inside_of, is_nil}
-use Rattle.markdown_block_rules.specs.BlockGrowth.{item_container, list_container, leaf_with}
-use Rattle.markdown_block_rules.specs.BlockGrowth.{line_block, new_blocks}
-use Rattle.markdown_block_rules.specs.BlockGrowth.{Kind, cut_paragraph, paragraph_leaf, table_after, table_leaf}
-use Rattle.markdown_block_rules.specs.BlockGrowth.{table_of_lines, table_with, with_line}
+use Rattle.markdown_block_rules.specs.BlockGrowth.{Block, begun_in, block_with, container_with, goes_on, inside_of}
+use Rattle.markdown_block_rules.specs.BlockGrowth.{is_nil, item_container, list_container, leaf_with, line_block}
+use Rattle.markdown_block_rules.specs.BlockGrowth.{new_blocks, Kind, cut_paragraph, paragraph_leaf, table_after}
+use Rattle.markdown_block_rules.specs.BlockGrowth.{table_leaf, table_of_lines, table_with, with_line}
 use Rattle.markdown_block_rules.specs.TableLines.{alignments_for, reads_tables}
 use Rattle.markdown_block_laws.specs.BlockLaws.{AreIndented, no_indented, one_indented, IndentedLinesMakeItem}
-use Rattle.markdown_block_laws.specs.BlockLaws.{ItemMayBeginWithBlankLine}
-use Rattle.markdown_block_laws.specs.BlockLaws.{item_from, list_from, lone, one_item_list, rest_of, to_line, to_lines}
-use Rattle.markdown_block_laws.specs.BlockLaws.{with_lines}
+use Rattle.markdown_block_laws.specs.BlockLaws.{ItemMayBeginWithBlankLine, item_from, list_from, lone, one_item_list}
+use Rattle.markdown_block_laws.specs.BlockLaws.{rest_of, to_line, to_lines, with_lines}
 use Rattle.markdown_scan.specs.LineStart.{LineLeft}
 use Rattle.markdown_lines.specs.SourceLines.{SourceLine, is_blank_rest}
 use Rattle.markdown_lines.specs.declared.list_marker.ListMarker.{ListMarker}
@@ -124,10 +122,6 @@ with_line_there s blocks l =
     result_there None new there other = other
     result_there (Some f) new there other = there
 
-not_both : (p q : Bool) → q ≡ false → (p && q) ≡ false
-not_both true q none = none
-not_both false q none = refl
-
 -- lines in an item that is not empty
 pub indented_lines : (s : Source) (indent : ℕ) (marker : ListMarker) (list b : Block) (below : Forest Block)
     (lines rests : List SourceLine)
@@ -138,7 +132,7 @@ pub indented_lines : (s : Source) (indent : ℕ) (marker : ListMarker) (list b :
 indented_lines s indent marker list b below [] [] lists is there no_indented = refl
 indented_lines s indent marker list b below _ _ lists is there (one_indented l rest lines rests indented more) =
     ap (λ (f : Forest Block). with_lines s f lines)
-    (indented_line s list b marker indent below l rest lists is (not_both (is_blank_rest l) (is_nil below) there)
+    (indented_line s list b marker indent below l rest lists is (and_right (is_blank_rest l) (is_nil below) there)
     indented)
     ∙ indented_lines s indent marker (to_line l list) (to_line l b) (with_line s below (rest_of l rest)) lines rests
     lists is (with_line_there s below (rest_of l rest)) more

@@ -1,13 +1,14 @@
 -- Each line of a text leaves list items directly in lists and nowhere else, and nothing else but blank lines in lists.
-use Rattle.std.proofs.Common.{◌≡◌, ℕ, zero, suc, Bool, true, false, not, ◌&&◌, ◌||◌, List, [], ◌∷◌, ◌++◌, ◌==◌}
-use Rattle.std.proofs.Common.{Option, Some, None, IfSome, refl, ◌∙◌, fold, length, nat_le}
+use Rattle.std.proofs.Common.{◌≡◌, ℕ, zero, suc, Bool, true, false, not, ◌&&◌, ◌||◌, List, [], ◌∷◌, ◌++◌, ◌==◌, Option}
+use Rattle.std.proofs.Common.{Some, None, IfSome, refl, ◌∙◌, fold, length, nat_le}
 use Rattle.std.specs.Prelude.{⊤, if◌then◌else◌}
 use Rattle.std.specs.Option.{option_map}
 use Rattle.markdown_base.specs.Forest.{Forest, nil, node}
 use Rattle.markdown_base.specs.Source.{Source}
 use Rattle.markdown_base.specs.declared.tag.Alignment.{Alignment}
+use Rattle.markdown_base.proofs.OptionLemmas.{if_or}
 use Rattle.markdown_block_rules.proofs.BlockBeginningsLemmas.{either}
-use Rattle.markdown_block_rules.proofs.GrowthLemmas.{chosen, mapped, or_both, unwrapped}
+use Rattle.markdown_block_rules.proofs.GrowthLemmas.{chosen, mapped, unwrapped}
 use Rattle.markdown_block_rules.specs.BlockGrowth as was
 use Rattle.markdown_block_rules.specs.BlockGrowth.{Block, Kind, added_in, another_item, begins_but_underline, begun_by}
 use Rattle.markdown_block_rules.specs.BlockGrowth.{begun_in, block_with, blocks_of, closes, container_with}
@@ -154,7 +155,7 @@ lazy_fit : (l : SourceLine) (in_list : Bool) (blocks : Forest Block) → Fit in_
 unfolding with_lazy
 lazy_fit l in_list nil fit = tt
 lazy_fit l in_list (node b below nil) fit =
-    or_both (Fit in_list) (with_lazy_text l b below b.kind) _ (lazy_text_fit l b below in_list b.kind fit.0 fit.1)
+    if_or (Fit in_list) (with_lazy_text l b below b.kind) _ (lazy_text_fit l b below in_list b.kind fit.0 fit.1)
     (mapped (Fit (holds_items b.kind)) (Fit in_list) _ (λ f inner. (fit.0, inner, tt)) (with_lazy l below)
     (lazy_fit l (holds_items b.kind) below fit.1))
 lazy_fit l in_list (node b below (node c others after)) fit =
@@ -196,7 +197,7 @@ module _ (s : Source) (l : SourceLine) (below : Forest Block) (inner : SourceLin
   container_fit was.quote_container fit goes = rest_fit (past_quote l.left) fit goes
   container_fit (was.alert_container kind) fit goes = rest_fit (past_quote l.left) fit goes
   container_fit (was.list_container marker) fit goes =
-      or_both (Fit true) (inner l) _ (goes l)
+      if_or (Fit true) (inner l) _ (goes l)
       (mapped (Fit true) (Fit true) _ (λ new fresh. joined true below new fit fresh) (next_item s l marker)
       (next_fit s l marker))
   container_fit (was.item_container indent) fit goes =
@@ -210,8 +211,8 @@ module _ (s : Source) (l : SourceLine) (below : Forest Block) (inner : SourceLin
       → ((m : SourceLine) → IfSome (inner m) (Fit (holds_items b.kind)))
       → IfSome (block_with s l b below inner) (Fit in_list)
   block_fit b in_list is fit goes =
-      or_both (Fit in_list) (table_with s l b b.kind) _ (table_fit s l b in_list b.kind is)
-      (or_both (Fit in_list) (option_map _ (leaf_with s l b.kind)) _
+      if_or (Fit in_list) (table_with s l b b.kind) _ (table_fit s l b in_list b.kind is)
+      (if_or (Fit in_list) (option_map _ (leaf_with s l b.kind)) _
       (mapped (Alike b.kind) (Fit in_list) _ (λ kind a. (a.1 in_list ∙ is, rw a.0 fit, tt)) (leaf_with s l b.kind)
       (leaf_alike s l b.kind))
       (mapped (Fit (holds_items b.kind)) (Fit in_list) _ (λ f grown. (is, grown, tt))

@@ -15,9 +15,8 @@ use Rattle.markdown_block_rules.specs.BlockGrowth.{Block, Kind, added_in, blocks
 use Rattle.markdown_block_rules.specs.BlockGrowth.{with_line, with_next_line, within_limit}
 use Rattle.markdown_block_rules.specs.TableLines.{fitting, most_added, reads_tables}
 use Rattle.markdown_block_rules.proofs.BlockBeginningsLemmas.{either}
-use Rattle.markdown_block_rules.proofs.GrowthLemmas.{Fresh, Grown, Held, KindGrows, line_grows}
-use Rattle.markdown_block_rules.proofs.GrowthLemmas.{all_begun, inside_grown, later_grown, leaf_grown, table_made}
-use Rattle.markdown_block_rules.proofs.GrowthLemmas.{table_made_behind}
+use Rattle.markdown_block_rules.proofs.GrowthLemmas.{Fresh, Grown, Held, KindGrows, line_grows, all_begun, inside_grown}
+use Rattle.markdown_block_rules.proofs.GrowthLemmas.{later_grown, leaf_grown, table_made, table_made_behind}
 
 -- a fact of kinds holds for what a line begins, and each line keeps it; each line has another fact
 pub record IsKept (s : Source) (has : SourceLine → Type 0) (p : Bool → Kind → Type 0) : Type 0 where

@@ -7,8 +7,7 @@ use Rattle.markdown_lines.specs.SourceLines.{SourceLine}
 use Rattle.markdown_block_rules.specs.BlockGrowth as was
 use Rattle.markdown_block_rules.specs.BlockGrowth.{Block, Kind, container_with, goes_on, leaf_with, table_with}
 use Rattle.markdown_block_laws.specs.LeafLaws.{HeadingsAndBreaksEnd, IndentedCodeEndsBeforeText, FencedCodeGoesOn}
-use Rattle.markdown_block_laws.specs.LeafLaws.{ClosingFenceClosesCode, ClosedCodeEnds, HtmlGoesOn}
-use Rattle.markdown_block_laws.specs.LeafLaws.{EndConditionEndsHtml}
+use Rattle.markdown_block_laws.specs.LeafLaws.{ClosingFenceClosesCode, ClosedCodeEnds, HtmlGoesOn, EndConditionEndsHtml}
 use Rattle.markdown_block_laws.specs.LeafLaws.{ClosedMetadataEnds, ClosingLineClosesMetadata, MetadataGoesOn}
 use Rattle.markdown_block_laws.specs.LeafLaws.{BlankLineEndsHtml, BlankLineEndsParagraph, ends_with_its_line}
 

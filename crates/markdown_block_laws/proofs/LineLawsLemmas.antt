@@ -1,26 +1,18 @@
 -- Lines and their endings.
-use Rattle.std.proofs.Common.{◌≡◌, ℕ, Bool, true, false, List, [], ◌∷◌, ◌++◌, Some}
-use Rattle.std.proofs.Common.{refl, sym, ap, arith, length, ◌&&◌, ◌==◌}
+use Rattle.std.proofs.Common.{◌≡◌, ℕ, Bool, true, false, List, [], ◌∷◌, ◌++◌, Some, refl, sym, ap, arith, length, ◌==◌}
 use Rattle.std.specs.List.{list_all, prefix_len}
 use Rattle.std.specs.Option.{is_some}
 use Rattle.std.proofs.Math.Seq.{take-append_seam, drop-append_seam}
 use Rattle.std.proofs.lemmas.Bool.{true≢false}
 use Rattle.markdown_scan.specs.LineEnd.{line_ending}
 use Rattle.markdown_block_laws.specs.LineLaws.{LineIsItsContent, is_in_line}
-
-head_true : (p q : Bool) → (p && q) ≡ true → p ≡ true
-head_true true q both = refl
-head_true false q both = both
-
-tail_true : (p q : Bool) → (p && q) ≡ true → q ≡ true
-tail_true true q both = both
-tail_true false q both = absurd (true≢false (sym both))
+use Rattle.markdown_base.proofs.BoolLemmas.{and_first, and_second}
 
 passed_all : (p : ℕ → Bool) (xs ys : List ℕ) → list_all p xs ≡ true → prefix_len p ys ≡ 0
     → prefix_len p (xs ++ ys) ≡ length xs
 passed_all p [] ys all none = none
 passed_all p (x ∷ xs) ys all none =
-    rw (head_true (p x) (list_all p xs) all, passed_all p xs ys (tail_true (p x) (list_all p xs) all) none)
+    rw (and_first (p x) (list_all p xs) all, passed_all p xs ys (and_second (p x) (list_all p xs) all) none)
     (omega arith)
 
 -- no byte of a line precedes a line ending

@@ -1,13 +1,13 @@
 -- When a list is loose.
 use Rattle.std.proofs.Common.{◌≡◌, Bool, true, false, refl, sym, ap, ◌∙◌, ◌&&◌, ◌||◌}
-use Rattle.std.proofs.lemmas.Bool.{true≢false}
+use Rattle.std.proofs.lemmas.Bool.{and_from, or_right, true≢false}
 use Rattle.markdown_base.specs.Forest.{Forest, nil, node}
+use Rattle.markdown_base.proofs.BoolLemmas.{and_first, and_second}
 use Rattle.markdown_block_rules.specs.BlockGrowth.{Block}
 use Rattle.markdown_block_rules.specs.BlockRules.{are_separated, block_ends_blank, ends_blank, hold_separated}
 use Rattle.markdown_block_rules.specs.BlockRules.{holds_block, is_loose}
 use Rattle.markdown_block_laws.specs.ListLaws.{BlankLineBetween, IsLooseAsSaid, between_items, in_an_item}
 use Rattle.markdown_block_laws.specs.ListLaws.{ListIsLooseAsSaid}
-use Rattle.markdown_block_laws.proofs.QuotedLinesLemmas.{both_left, both_right}
 use Rattle.markdown_builder.specs.TreeLevels.{followed_by}
 
 right_true : (p q : Bool) → p ≡ false → (p || q) ≡ true → q ≡ true
@@ -17,14 +17,6 @@ right_true false q none one = one
 left_or : (p q : Bool) → p ≡ true → (p || q) ≡ true
 left_or true q one = refl
 left_or false q one = absurd (true≢false (sym one))
-
-right_or : (p q : Bool) → q ≡ true → (p || q) ≡ true
-right_or true q one = refl
-right_or false q one = one
-
-both_true : (p q : Bool) → p ≡ true → q ≡ true → (p && q) ≡ true
-both_true true q first second = second
-both_true false q first second = absurd (true≢false (sym first))
 
 found_between : (blocks : Forest Block) → are_separated blocks ≡ true → BlankLineBetween blocks
 found_between nil one = absurd (true≢false (sym one))
@@ -41,8 +33,8 @@ found_between (node b below after) one =
       below = below;
       after = after;
       split = refl;
-      ends = both_left (block_ends_blank (ends_blank false below) b.kind) (holds_block after) is;
-      follows = both_right (block_ends_blank (ends_blank false below) b.kind) (holds_block after) is;
+      ends = and_first (block_ends_blank (ends_blank false below) b.kind) (holds_block after) is;
+      follows = and_second (block_ends_blank (ends_blank false below) b.kind) (holds_block after) is;
     }
     decided others false none =
         let more = others
@@ -63,9 +55,9 @@ separated_there : (before : Forest Block) (block : Block) (below after : Forest 
     → are_separated (followed_by before (node block below after)) ≡ true
 separated_there nil block below after ends follows =
     left_or (block_ends_blank (ends_blank false below) block.kind && holds_block after) (are_separated after)
-    (both_true (block_ends_blank (ends_blank false below) block.kind) (holds_block after) ends follows)
+    (and_from (block_ends_blank (ends_blank false below) block.kind) (holds_block after) ends follows)
 separated_there (node c inside others) block below after ends follows =
-    right_or (block_ends_blank (ends_blank false inside) c.kind && holds_block
+    or_right (block_ends_blank (ends_blank false inside) c.kind && holds_block
     (followed_by others (node block below after)))
     (are_separated (followed_by others (node block below after)))
     (separated_there others block below after ends follows)
@@ -102,7 +94,7 @@ holds_there : (before : Forest Block) (item : Block) (below after : Forest Block
     → hold_separated (followed_by before (node item below after)) ≡ true
 holds_there nil item below after is = left_or (are_separated below) (hold_separated after) is
 holds_there (node c inside others) item below after is =
-    right_or (are_separated inside) (hold_separated (followed_by others (node item below after)))
+    or_right (are_separated inside) (hold_separated (followed_by others (node item below after)))
     (holds_there others item below after is)
 
 pub loose_as_said : ListIsLooseAsSaid
@@ -119,5 +111,5 @@ loose_as_said items = (found, said)
     said (between_items between) =
         left_or (are_separated items) (hold_separated items) (said_between items between)
     said (in_an_item before item below after split between) =
-        right_or (are_separated items) (hold_separated items)
+        or_right (are_separated items) (hold_separated items)
         (ap hold_separated split ∙ holds_there before item below after (said_between below between))

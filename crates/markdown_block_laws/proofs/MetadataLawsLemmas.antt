@@ -1,6 +1,6 @@
 -- Where metadata is, and what it contains.
-use Rattle.std.proofs.Common.{◌≡◌, ℕ, zero, suc, Bool, true, false, not, ◌==◌, List, [], ◌∷◌}
-use Rattle.std.proofs.Common.{Option, Some, None, refl, sym, ap, ◌∙◌, subst, length, nat_lt, take}
+use Rattle.std.proofs.Common.{◌≡◌, ℕ, zero, suc, Bool, true, false, not, ◌==◌, List, [], ◌∷◌, Option, Some, None, refl}
+use Rattle.std.proofs.Common.{sym, ap, ◌∙◌, subst, length, nat_lt, take}
 use Rattle.std.proofs.lemmas.Bool.{or_from, or_parts, true≢false}
 use Rattle.std.specs.Prelude.{⊤, if◌then◌else◌}
 use Rattle.std.specs.List.{AllByRecursion}
@@ -26,10 +26,9 @@ use Rattle.markdown_block_rules.specs.BlockRules.{empty_cells, in_no_item, info_
 use Rattle.markdown_block_rules.specs.BlockRules.{last_braces, last_end, paragraph_body, paragraph_items, shown_block}
 use Rattle.markdown_block_rules.specs.BlockRules.{shown_blocks, shown_cells, shown_heading, shown_row, shown_rows}
 use Rattle.markdown_block_rules.specs.BlockRules.{shown_setext, shown_table, shown_text}
-use Rattle.markdown_block_rules.specs.LineContents.{cell_items, lines_items}
-use Rattle.markdown_block_rules.specs.LineContents.{source_line, source_lines}
-use Rattle.markdown_block_laws.specs.MetadataLaws.{AreTexts, KeepsMetadataOutermost, MetadataIsOutermost}
-use Rattle.markdown_block_laws.specs.MetadataLaws.{has_metadata, is_metadata, is_text_item}
+use Rattle.markdown_block_rules.specs.LineContents.{cell_items, lines_items, source_line, source_lines}
+use Rattle.markdown_block_laws.specs.MetadataLaws.{AreTexts, KeepsMetadataOutermost, MetadataIsOutermost, has_metadata}
+use Rattle.markdown_block_laws.specs.MetadataLaws.{is_metadata, is_text_item}
 use Rattle.markdown_block_rules.specs.TableLines.{cells_added, cells_of}
 use Rattle.markdown_block_rules.proofs.BlockBeginningsLemmas.{either}
 use Rattle.markdown_block_rules.proofs.GrowthLemmas.{Fresh, Held, KindGrows, fenced_more, html_more, indented_more}

@@ -1,16 +1,14 @@
 -- Lines with a block quote marker.
-use Rattle.std.proofs.Common.{◌≡◌, ℕ, suc, ◌+◌, ◌-◌, ◌<◌, Bool, true, false, List, [], ◌∷◌, ◌++◌}
-use Rattle.std.proofs.Common.{Some, None}
-use Rattle.std.proofs.Common.{subst, refl, sym, ap, ◌∙◌, arith, length, drop, ◌&&◌, ◌||◌, ◌==◌, codes, nat_lt}
-use Rattle.std.proofs.Common.{nat_le, ⊎_elim}
-use Rattle.std.proofs.lemmas.Bool.{cases_Bool}
+use Rattle.std.proofs.Common.{◌≡◌, ℕ, suc, ◌+◌, ◌-◌, ◌<◌, Bool, true, false, List, [], ◌∷◌, ◌++◌, Some, None, subst}
+use Rattle.std.proofs.Common.{refl, sym, ap, ◌∙◌, arith, length, drop, ◌&&◌, ◌||◌, ◌==◌, codes, nat_lt, nat_le, ⊎_elim}
+use Rattle.std.proofs.lemmas.Bool.{cases_Bool, true≢false}
 use Rattle.std.specs.Prelude.{Option, if◌then◌else◌}
 use Rattle.std.specs.List.{list_all}
 use Rattle.std.specs.Option.{is_some}
-use Rattle.std.proofs.lemmas.Bool.{true≢false}
 use Rattle.std.proofs.lemmas.Option.{same_Some}
 use Rattle.std.proofs.lemmas.Bool.Decides.{Decides-eqb, nat_tests}
 use Rattle.std.proofs.lemmas.Slice.Eq.{starts_is}
+use Rattle.std.proofs.Math.Bool.{or-true}
 use Rattle.markdown_scan.specs.ContainerParts.{past_quote}
 use Rattle.markdown_scan.specs.Beginnings.{begins_with}
 use Rattle.markdown_base.specs.Forest.{Forest}
@@ -19,12 +17,11 @@ use Rattle.markdown_lines.specs.declared.block_start.Before.TheVariants as parag
 use Rattle.markdown_lines.specs.Alerts.{alert_read}
 use Rattle.markdown_lines.specs.BlockBeginnings as line
 use Rattle.markdown_base.specs.Source.{Source}
-use Rattle.markdown_lines.specs.BlockBeginnings.{Beginning, begins, begins_after, metadata_in_line}
-use Rattle.markdown_lines.specs.BlockBeginnings.{quote_in_line}
+use Rattle.markdown_base.proofs.BoolLemmas.{and_first, and_second}
+use Rattle.markdown_lines.specs.BlockBeginnings.{Beginning, begins, metadata_in_line}
 use Rattle.markdown_lines.specs.MetadataBlocks.{line_opens}
 use Rattle.markdown_block_rules.specs.BlockGrowth.{Block, begun_in, goes_on, line_block}
-use Rattle.markdown_block_laws.specs.BlockLaws.{QuotedLinesMakeQuote, lone, quote_from, rest_of}
-use Rattle.markdown_block_laws.specs.BlockLaws.{with_lines}
+use Rattle.markdown_block_laws.specs.BlockLaws.{QuotedLinesMakeQuote, lone, quote_from, rest_of, with_lines}
 use Rattle.markdown_scan.specs.LineStart.{LineLeft, Space, column_after, leading_space, no_space, past_marker}
 use Rattle.markdown_scan.specs.LineStart.{space_from, space_width, wider}
 use Rattle.markdown_lines.specs.Lines.{is_space_or_tab}
@@ -36,14 +33,6 @@ use Rattle.markdown_block_laws.proofs.BlockLawsLemmas.{marked_lines}
 chosen : {A : Type 0} (test : Bool) (x y : A) → (if test then Some x else None) ≡ Some y → (test ≡ true) × (x ≡ y)
 chosen true x y is = (refl, same_Some x y is)
 chosen false x y is = absurd (true≢false (sym (ap is_some is)))
-
-pub both_left : (p q : Bool) → (p && q) ≡ true → p ≡ true
-both_left true q both = refl
-both_left false q both = both
-
-pub both_right : (p q : Bool) → (p && q) ≡ true → q ≡ true
-both_right true q both = both
-both_right false q both = absurd (true≢false (sym both))
 
 not_four : (n : ℕ) → nat_lt n 4 ≡ true → (n == 4) ≡ false
 not_four n few = grind (arith, nat_tests)
@@ -62,18 +51,13 @@ marker_opens bytes there =
     (starts_is Decides-eqb bytes (codes ">") (begins_with (codes ">") bytes) refl).0 there in
     rw is refl
 
--- where no white space stands, no byte is read
-either_true : (test : Bool) → (test || true) ≡ true
-either_true true = refl
-either_true false = refl
-
 no_byte_read : (n scanned column b : ℕ) (bytes : List ℕ) → is_space_or_tab b ≡ false
     → (space_from n scanned column (b ∷ bytes)).after.bytes ≡ b ∷ bytes
 no_byte_read n scanned column b bytes other =
     let blank : (b == 32) ≡ false = grind (arith, nat_tests, other) in
     let tab : (b == 9) ≡ false = grind (arith, nat_tests, other) in
     let width : space_width column b ≡ 0 = rw (blank, tab) refl in
-    rw (width, either_true (n == 0)) refl
+    rw (width, or-true (n == 0)) refl
 
 nothing_read : (n : ℕ) (left : LineLeft) (b : ℕ) (bytes : List ℕ) → b ∷ bytes ≡ left.bytes
     → is_space_or_tab b ≡ false → b ∷ bytes ≡ (leading_space n left).after.bytes
@@ -111,9 +95,9 @@ quote_begins s before l rest marker plain =
     let near = nat_lt space.columns 4 in
     let marked = begins_with (codes ">") space.after.bytes in
     let found = chosen (near && marked) (past_marker space.after) rest marker in
-    let there = both_right near marked found.0 in
+    let there = and_second near marked found.0 in
     rw (
-      not_four space.columns (both_left near marked found.0),
+      not_four space.columns (and_first near marked found.0),
       no_metadata s before l (quote_opens l.left l.left.bytes refl there),
       there,
     ) (ap (line.quote_of s.syntax) found.1 ∙ ap (line.quote_or_alert rest) plain)
@@ -126,7 +110,7 @@ white_left : (n scanned column : ℕ) (bytes : List ℕ) → list_all is_space_o
     → list_all is_space_or_tab (space_from n scanned column bytes).after.bytes ≡ true
 white_left n scanned column [] white = refl
 white_left n scanned column (b ∷ bytes) white =
-    let others = both_right (is_space_or_tab b) (list_all is_space_or_tab bytes) white in
+    let others = and_second (is_space_or_tab b) (list_all is_space_or_tab bytes) white in
     let more = white_left (n - space_width column b) (scanned + 1) (column_after column b) bytes others in
     let here = no_space (record { scanned = scanned; owed = 0; column = column; bytes = b ∷ bytes }) in
     let cut : Space = record {
@@ -167,7 +151,7 @@ quote_not_blank l rest marker = decided (is_blank_rest l) refl
         let space = leading_space 4 l.left in
         let near = nat_lt space.columns 4 in
         let marked = begins_with (codes ">") space.after.bytes in
-        both_right near marked (chosen (near && marked) (past_marker space.after) rest marker).0
+        and_second near marked (chosen (near && marked) (past_marker space.after) rest marker).0
 
     decided : (test : Bool) → is_blank_rest l ≡ test → test ≡ false
     decided false is = refl

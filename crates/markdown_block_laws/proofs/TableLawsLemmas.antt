@@ -1,6 +1,6 @@
 -- Where tables, their rows and their cells are, how many cells a row has, and where lists and their items are.
-use Rattle.std.proofs.Common.{◌≡◌, ℕ, zero, suc, ◌+◌, Bool, true, false, not, ◌==◌, List, [], ◌∷◌, length, take}
-use Rattle.std.proofs.Common.{Option, Some, None, refl, sym, ap, ◌∙◌, arith, length-take}
+use Rattle.std.proofs.Common.{◌≡◌, ℕ, zero, suc, ◌+◌, Bool, true, false, not, ◌==◌, List, [], ◌∷◌, length, take, Option}
+use Rattle.std.proofs.Common.{Some, None, refl, sym, ap, ◌∙◌, arith, length-take}
 use Rattle.std.proofs.lemmas.Bool.{true≢false}
 use Rattle.std.specs.Prelude.{IsTrue, if◌then◌else◌}
 use Rattle.markdown_base.specs.Forest.{Each, Forest, Throughout, nil, node, roots}
@@ -24,11 +24,10 @@ use Rattle.markdown_block_rules.specs.BlockGrowth.{Block, Kind, blocks_of}
 use Rattle.markdown_block_rules.specs.BlockRules.{Around, before_braces, block_end, block_tree, cells_shown, code_lines}
 use Rattle.markdown_block_rules.specs.BlockRules.{empty_cells, in_no_item, info_of, is_loose, items_after_task}
 use Rattle.markdown_block_rules.specs.BlockRules.{last_braces, last_end, paragraph_body, paragraph_items, shown_block}
-use Rattle.markdown_block_rules.specs.BlockRules.{shown_blocks, shown_cells, shown_heading, shown_rows}
-use Rattle.markdown_block_rules.specs.BlockRules.{shown_setext, shown_table, shown_text}
+use Rattle.markdown_block_rules.specs.BlockRules.{shown_blocks, shown_cells, shown_heading, shown_rows, shown_setext}
+use Rattle.markdown_block_rules.specs.BlockRules.{shown_table, shown_text}
 use Rattle.markdown_block_rules.specs.LineContents.{cell_items, lines_items, source_lines}
-use Rattle.markdown_block_laws.specs.TableLaws.{AreCells, AreRows, EachContains, KeepsRowsEven}
-use Rattle.markdown_block_laws.specs.TableLaws.{RowsAreEven}
+use Rattle.markdown_block_laws.specs.TableLaws.{AreCells, AreRows, EachContains, KeepsRowsEven, RowsAreEven}
 use Rattle.markdown_block_laws.proofs.ItemPlacesLemmas.{Fit, fits, holds_items, text_fit}
 use Rattle.markdown_block_laws.specs.ItemsInPlace.{ItemsInPlace, ItemsOfTextsInPlace, is_list}
 use Rattle.markdown_block_laws.specs.TaskLaws.{is_list_item}

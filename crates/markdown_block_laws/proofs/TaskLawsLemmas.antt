@@ -1,6 +1,6 @@
 -- Where task markers are.
-use Rattle.std.proofs.Common.{◌≡◌, ℕ, zero, suc, ◌<◌, Bool, true, false, not, ◌==◌, List, [], ◌∷◌}
-use Rattle.std.proofs.Common.{Option, Some, None, refl, sym, ◌∙◌, ◌-◌, arith, length, take, nat_le}
+use Rattle.std.proofs.Common.{◌≡◌, ℕ, zero, suc, ◌<◌, Bool, true, false, not, ◌==◌, List, [], ◌∷◌, Option, Some, None}
+use Rattle.std.proofs.Common.{refl, sym, ◌∙◌, ◌-◌, arith, length, take, nat_le}
 use Rattle.std.proofs.lemmas.Bool.{or_from, or_parts, true≢false}
 use Rattle.std.proofs.lemmas.Bool.Decides.{nat_tests}
 use Rattle.std.specs.Prelude.{⊤, if◌then◌else◌}
@@ -27,16 +27,13 @@ use Rattle.markdown_block_rules.specs.BlockGrowth.{Block, Kind, blocks_of}
 use Rattle.markdown_block_rules.specs.BlockRules.{Around, before_braces, block_end, cells_shown, code_lines}
 use Rattle.markdown_block_rules.specs.BlockRules.{cut_before_braces, empty_cells, in_no_item, info_of, is_loose}
 use Rattle.markdown_block_rules.specs.BlockRules.{items_after_task, last_braces, last_end, paragraph_body}
-use Rattle.markdown_block_rules.specs.BlockRules.{paragraph_items}
-use Rattle.markdown_block_rules.specs.BlockRules.{paragraph_lines, shown_block, shown_blocks, shown_cells}
-use Rattle.markdown_block_rules.specs.BlockRules.{shown_heading}
-use Rattle.markdown_block_rules.specs.BlockRules.{shown_row, shown_rows, shown_setext, shown_table, shown_text}
-use Rattle.markdown_block_rules.specs.LineContents.{cell_items, lines_items}
-use Rattle.markdown_block_rules.specs.LineContents.{source_lines}
+use Rattle.markdown_block_rules.specs.BlockRules.{paragraph_items, paragraph_lines, shown_block, shown_blocks}
+use Rattle.markdown_block_rules.specs.BlockRules.{shown_cells, shown_heading, shown_row, shown_rows, shown_setext}
+use Rattle.markdown_block_rules.specs.BlockRules.{shown_table, shown_text}
+use Rattle.markdown_block_rules.specs.LineContents.{cell_items, lines_items, source_lines}
 use Rattle.markdown_block_rules.specs.TableLines.{cells_added, cells_of}
 use Rattle.markdown_block_laws.specs.TaskLaws.{KeepsMarkersFirst, TaskMarkersComeFirst, has_marker, has_task}
-use Rattle.markdown_block_laws.specs.TaskLaws.{is_list_item}
-use Rattle.markdown_block_laws.specs.TaskLaws.{is_of_text, is_task_marker}
+use Rattle.markdown_block_laws.specs.TaskLaws.{is_list_item, is_of_text, is_task_marker}
 use Rattle.markdown_block_rules.proofs.BlockBeginningsLemmas.{either}
 use Rattle.markdown_block_rules.proofs.GrowthLemmas.{Fresh, Held, KindGrows, fenced_more, html_more, indented_more}
 use Rattle.markdown_block_rules.proofs.GrowthLemmas.{metadata_closed, metadata_more, row_more, text_more, underlined}

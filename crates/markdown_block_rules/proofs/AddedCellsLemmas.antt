@@ -6,8 +6,7 @@ use Rattle.markdown_base.specs.Forest.{Forest, nil, node}
 use Rattle.markdown_base.specs.Source.{Source}
 use Rattle.markdown_lines.specs.SourceLines.{SourceLine}
 use Rattle.markdown_block_rules.specs.BlockGrowth as was
-use Rattle.markdown_block_rules.specs.BlockGrowth.{Block, Kind, added_in, added_in_block, table_ended}
-use Rattle.markdown_block_rules.specs.BlockGrowth.{with_ended_table}
+use Rattle.markdown_block_rules.specs.BlockGrowth.{Block, Kind, added_in, added_in_block, table_ended, with_ended_table}
 use Rattle.markdown_block_rules.proofs.GrowthLemmas.{Fresh, Grown, Held, KindGrows, all_begun, inside_grown}
 use Rattle.markdown_block_rules.proofs.GrowthLemmas.{later_grown, leaf_grown, table_made, table_made_behind}
 use Rattle.markdown_block_rules.proofs.GrowthLemmas.{fenced_more, html_more, indented_more, metadata_closed}

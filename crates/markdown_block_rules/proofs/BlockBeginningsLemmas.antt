@@ -1,9 +1,7 @@
 -- What a line begins holds less than the line: each container takes at least one byte. So the number of containers that
 -- may be in each other, where it is large enough, does not matter.
 use Rattle.std.proofs.Common.{◌≡◌, ℕ, zero, suc, ◌+◌, ◌-◌, ◌<◌, ◌≤◌, Bool, true, false, List, [], ◌∷◌, Option, Some}
-use Rattle.std.proofs.Common.{None}
-use Rattle.std.proofs.Common.{refl, arith, length, drop, take, not, ◌&&◌, ◌||◌, ◌==◌, codes, nat_lt}
-use Rattle.std.proofs.Common.{nat_le}
+use Rattle.std.proofs.Common.{None, refl, arith, length, drop, take, not, ◌&&◌, ◌||◌, ◌==◌, codes, nat_lt, nat_le}
 use Rattle.std.specs.Prelude.{⊤, if◌then◌else◌, slice_range, slice_index, unwrap_or}
 use Rattle.std.specs.Option.{option_and_then, option_map}
 use Rattle.std.proofs.lemmas.List.{length-drop}
@@ -23,16 +21,16 @@ use Rattle.markdown_lines.specs.declared.block_start.Before.{Before}
 use Rattle.markdown_lines.specs.declared.block_start.Before.TheVariants as paragraph
 use Rattle.markdown_lines.specs.BlockBeginnings as line
 use Rattle.markdown_base.specs.Source.{Source}
-use Rattle.markdown_lines.specs.BlockBeginnings.{Beginning, begins, begins_after, first_found}
-use Rattle.markdown_lines.specs.BlockBeginnings.{past_bytes, quote_of, quote_or_alert}
+use Rattle.markdown_lines.specs.BlockBeginnings.{Beginning, begins, begins_after, first_found, past_bytes, quote_of}
+use Rattle.markdown_lines.specs.BlockBeginnings.{quote_or_alert, quote_in_line, heading_in_line, fence_in_line}
+use Rattle.markdown_lines.specs.BlockBeginnings.{html_in_line, footnote_in_line, metadata_begun, metadata_in_line}
+use Rattle.markdown_lines.specs.BlockBeginnings.{whole_heading, footnote_marker, label_before_colon, underline_in_line}
+use Rattle.markdown_lines.specs.BlockBeginnings.{break_in_line, is_paragraph, is_reached, item_in_line, item_of}
+use Rattle.markdown_lines.specs.BlockBeginnings.{item_space}
 use Rattle.markdown_lines.specs.Alerts.{alert_read}
 use Rattle.markdown_base.specs.declared.tag.BlockQuoteKind.{BlockQuoteKind}
-use Rattle.markdown_lines.specs.BlockBeginnings.{quote_in_line, heading_in_line, fence_in_line, html_in_line}
-use Rattle.markdown_lines.specs.BlockBeginnings.{footnote_in_line, metadata_begun, metadata_in_line, whole_heading}
-use Rattle.markdown_lines.specs.BlockBeginnings.{footnote_marker, label_before_colon, underline_in_line, break_in_line}
-use Rattle.markdown_lines.specs.BlockBeginnings.{is_paragraph, is_reached, item_in_line, item_of, item_space}
-use Rattle.markdown_lines.specs.ListMarkers.{decimal, ends_number, is_bullet, marker_of, ordered_marker}
-use Rattle.markdown_lines.specs.ListMarkers.{stands_before, ordered_marker_of, if_it_stands, list_marker_at}
+use Rattle.markdown_lines.specs.ListMarkers.{decimal, ends_number, is_bullet, marker_of, ordered_marker, stands_before}
+use Rattle.markdown_lines.specs.ListMarkers.{ordered_marker_of, if_it_stands, list_marker_at}
 use Rattle.markdown_scan.specs.LineStart.{LineLeft, Space, leading_space, space_from, past_marker, past_one_byte}
 use Rattle.markdown_scan.specs.LineStart.{space_width, no_space, wider, column_after}
 use Rattle.markdown_lines.specs.declared.list_marker.ListMarker.{ListMarker}

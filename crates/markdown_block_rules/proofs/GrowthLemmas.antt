@@ -1,7 +1,7 @@
 -- What one more line makes of blocks: the last block, at any depth, goes on in it, and then only its own kind changes,
 -- or it makes a table of a paragraph's end; or blocks begin after it.
-use Rattle.std.proofs.Common.{◌≡◌, ℕ, zero, suc, Bool, true, false, not, ◌||◌, ◌&&◌, ◌==◌, List, [], ◌∷◌, ◌++◌}
-use Rattle.std.proofs.Common.{Option, Some, None, IfSome, length, refl, sym, ap, ◌∙◌, subst, append_assoc}
+use Rattle.std.proofs.Common.{◌≡◌, ℕ, zero, suc, Bool, true, false, not, ◌||◌, ◌&&◌, ◌==◌, List, [], ◌∷◌, ◌++◌, Option}
+use Rattle.std.proofs.Common.{Some, None, IfSome, length, refl, sym, ap, ◌∙◌, subst, append_assoc}
 use Rattle.std.proofs.lemmas.Bool.{true≢false}
 use Rattle.std.specs.Prelude.{⊤, unwrap_or, if◌then◌else◌}
 use Rattle.std.specs.List.{AllByRecursion}
@@ -16,6 +16,7 @@ use Rattle.markdown_lines.specs.declared.html_kind.HtmlKind.{HtmlKind}
 use Rattle.markdown_lines.specs.declared.list_marker.ListMarker.{ListMarker}
 use Rattle.markdown_lines.specs.BlockBeginnings as line
 use Rattle.markdown_base.specs.Source.{Source}
+use Rattle.markdown_base.proofs.OptionLemmas.{if_or}
 use Rattle.markdown_lines.specs.BlockBeginnings.{Beginning, begins}
 use Rattle.markdown_lines.specs.DefinitionRules.{divided}
 use Rattle.markdown_lines.specs.HtmlKinds.{ends_at_blank}
@@ -25,10 +26,9 @@ use Rattle.markdown_scan.specs.ContainerParts.{past_footnote, past_indent, past_
 use Rattle.markdown_scan.specs.Entity.{entity_names}
 use Rattle.markdown_scan.specs.LineStart.{LineLeft, leading_space}
 use Rattle.markdown_block_rules.specs.BlockGrowth as was
-use Rattle.markdown_block_rules.specs.BlockGrowth.{Block, Kind, another_item, begun_by, begun_in, block_with}
-use Rattle.markdown_block_rules.specs.BlockGrowth.{closes, container_with, cut_paragraph, ends_html}
-use Rattle.markdown_block_rules.specs.BlockGrowth.{goes_on, inside_of}
-use Rattle.markdown_block_rules.specs.BlockGrowth.{is_nil, is_text, leaf_with, line_block, new_blocks, next_item}
+use Rattle.markdown_block_rules.specs.BlockGrowth.{Block, Kind, another_item, begun_by, begun_in, block_with, closes}
+use Rattle.markdown_block_rules.specs.BlockGrowth.{container_with, cut_paragraph, ends_html, goes_on, inside_of, is_nil}
+use Rattle.markdown_block_rules.specs.BlockGrowth.{is_text, leaf_with, line_block, new_blocks, next_item}
 use Rattle.markdown_block_rules.specs.BlockGrowth.{begins_but_underline, paragraph_with, paragraph_with_text}
 use Rattle.markdown_block_rules.specs.BlockGrowth.{table_after, table_of_lines, table_with, with_lazy, with_lazy_text}
 use Rattle.markdown_block_rules.specs.BlockGrowth.{with_line, with_rest}
@@ -91,11 +91,6 @@ pub data Grown (s : Source) (l : SourceLine) : Bool → Forest Block → Forest 
       → fitting s head row ≡ Some alignments → d.kind ≡ was.paragraph_leaf before
       → c.kind ≡ was.table_leaf false head alignments []
       → Grown s l top (node b below nil) (node d nil (node c nil nil))
-
--- facts of what is there, if something is
-pub or_both : {A : Type 0} (p : A → Type 0) (a b : Option A) → IfSome a p → IfSome b p → IfSome (option_or a b) p
-or_both p None b first second = second
-or_both p (Some x) b first second = first
 
 pub mapped : {A B : Type 0} (p : A → Type 0) (q : B → Type 0) (f : A → B) → ((a : A) → p a → q (f a)) → (o : Option A)
     → IfSome o p → IfSome (option_map f o) q
@@ -301,7 +296,7 @@ lazy_grows : (s : Source) (l m : SourceLine) (top : Bool) → m.next ≡ l.next 
 unfolding with_lazy
 lazy_grows s l m top next nil = tt
 lazy_grows s l m top next (node b below nil) =
-    or_both (Grown s l top (node b below nil)) (with_lazy_text m b below b.kind)
+    if_or (Grown s l top (node b below nil)) (with_lazy_text m b below b.kind)
     (option_map (λ f. node (record b { last = m.next }) f nil) (with_lazy m below))
     (lazy_text_grows s l m top b below next b.kind refl)
     (mapped (Grown s l false below) (Grown s l top (node b below nil)) (λ f. node (record b { last = m.next }) f nil)
@@ -351,7 +346,7 @@ module _ (s : Source) (l m : SourceLine) (below : Forest Block) (next : m.next �
   container_grows was.quote_container = rest_grows (past_quote m.left)
   container_grows (was.alert_container kind) = rest_grows (past_quote m.left)
   container_grows (was.list_container marker) =
-      or_both (Grown s l false below) (inner m) (option_map (followed_by below) (next_item s m marker)) (grows m next)
+      if_or (Grown s l false below) (inner m) (option_map (followed_by below) (next_item s m marker)) (grows m next)
       (mapped (Held (Fresh m.next) false) (Grown s l false below) (followed_by below)
       (λ new fresh. begun_after s l false below new (moved l m new next fresh)) (next_item s m marker)
       (next_fresh s m marker))
@@ -370,11 +365,11 @@ module _ (s : Source) (l m : SourceLine) (below : Forest Block) (next : m.next �
       let grown = Grown s l top (node b below nil) in
       let as_leaf : Kind → Forest Block = λ kind. node (record b { last = m.next; kind = kind }) below nil in
       let around : Forest Block → Forest Block = λ f. node (record b { last = m.next }) f nil in
-      or_both grown (table_with s m b b.kind)
+      if_or grown (table_with s m b b.kind)
       (option_or (option_map as_leaf (leaf_with s m b.kind))
       (option_map around (container_with s m below inner b.kind)))
       (table_grows s l m top b below b.kind refl)
-      (or_both grown (option_map as_leaf (leaf_with s m b.kind))
+      (if_or grown (option_map as_leaf (leaf_with s m b.kind))
       (option_map around (container_with s m below inner b.kind))
       (mapped (KindGrows l top b.kind) grown as_leaf
       (λ kind more. leaf_grown top b (record b { last = m.next; kind = kind }) below b.kind refl more)

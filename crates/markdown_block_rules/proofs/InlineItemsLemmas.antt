@@ -16,8 +16,7 @@ use Rattle.markdown_base.specs.declared.item.ItemBody.TheVariants as body
 use Rattle.markdown_items.specs.Dashes.{dashes_for, dashes_in_utf8, ellipsis}
 use Rattle.markdown_items.specs.Flanking.{character_after, character_before}
 use Rattle.markdown_items.specs.Found.{dots_at, entity_at, entity_found, escape_at, found_at, hyphens_at, image_at}
-use Rattle.markdown_items.specs.Found.{mark_at}
-use Rattle.markdown_items.specs.Found.{run_at, run_found}
+use Rattle.markdown_items.specs.Found.{mark_at, run_at, run_found}
 use Rattle.markdown_items.specs.FoundView as found
 use Rattle.markdown_items.specs.FoundView.{FoundView}
 use Rattle.markdown_items.specs.LineItems.{is_after_backslash, is_special, math_mark, quote_mark, run_end, run_flags}
@@ -32,8 +31,7 @@ use Rattle.markdown_lines.specs.TableRows.{piece_length}
 use Rattle.markdown_lines.specs.declared.line_break.LineBreak.{LineBreak}
 use Rattle.markdown_scan.specs.Beginnings.{begins_with}
 use Rattle.markdown_scan.specs.Entity.{entity}
-use Rattle.markdown_block_rules.specs.LineContents.{break_between, broken_line, cell_items}
-use Rattle.markdown_block_rules.specs.LineContents.{lines_items, pieces_items}
+use Rattle.markdown_block_rules.specs.LineContents.{break_between, broken_line, cell_items, lines_items, pieces_items}
 use Rattle.markdown_block_rules.specs.LineContents.{source_line, source_lines}
 use Rattle.markdown_block_rules.proofs.BlockBeginningsLemmas.{either}
 use Rattle.markdown_builder.specs.Shown.{Shown, plain_item, run_items, synthesized_item}

@@ -1,7 +1,6 @@
 -- The numbers by which nodes name parts of a block result, marked one after another.
 use Rattle.std.proofs.Common.{◌≡◌, ℕ, ◌+◌, ◌<◌, List, ◌∷◌, Some, None, Bool, true, false, length, get_or, set, drop}
-use Rattle.std.proofs.Common.{replicate, refl}
-use Rattle.std.proofs.Common.{add-one}
+use Rattle.std.proofs.Common.{replicate, refl, add-one}
 use Rattle.std.proofs.Math.Seq.{drop-cons}
 use Rattle.markdown_base.specs.declared.item.Item.{Item}
 use Rattle.markdown_base.specs.declared.node.Node.{Node}

@@ -3,22 +3,19 @@
 use Rattle.std.proofs.Common.{◌≡◌, ℕ, ◌<◌, List, Option, Some, None, Bool, true, false, length, refl, sym, ap, ◌∙◌}
 use Rattle.std.proofs.Common.{arith}
 use Rattle.std.specs.Prelude.{⊤, IsTrue, ◌↔◌, ◌||◌, ◌&&◌, not, is_some}
+use Rattle.std.proofs.Math.Bool.{or-false}
 use Rattle.markdown_base.specs.declared.item.Item.{Item}
 use Rattle.markdown_base.specs.declared.node.Node.{Node}
 use Rattle.markdown_base.specs.Arena.{child_of, sibling_of}
 use Rattle.markdown_base.specs.ArenaForest.{links_of, forest_at}
 use Rattle.markdown_base.specs.BlockTree.{numbered, item_at, trees_at}
-use Rattle.markdown_base.specs.Forest.{Forest, nil, node, Each, roots, relabelled}
+use Rattle.markdown_base.specs.Forest.{nil, node, roots, relabelled}
 use Rattle.markdown_base.specs.Item.{is_open, is_inline, is_tight_paragraph}
 use Rattle.markdown_base.specs.WellFormed.{has_open, all_inline, has_tight_paragraph}
 use Rattle.markdown_base.proofs.ArenaForestLemmas.{opens, forest_at-none}
+use Rattle.markdown_base.proofs.ForestLemmas.{Each-always}
 use Rattle.markdown_blocks.specs.declared.chain.ChainKinds.{ChainKinds}
 use Rattle.markdown_blocks.specs.NodeRules.{LeadsOn, Tells}
-
--- what always holds, holds of each node
-always : (f : Forest ℕ) → Each (λ ix. ⊤) f
-always nil = tt
-always (node ix below after) = (tt, always below, always after)
 
 -- a link to a node leads to that node, to what is below it and to what follows it
 pub record OpensAt (nodes : List (Node Item)) (ix : ℕ) : Type 0 where
@@ -31,7 +28,7 @@ pub record OpensAt (nodes : List (Node Item)) (ix : ℕ) : Type 0 where
 pub opens_at : (nodes : List (Node Item)) (ix : ℕ) → LeadsOn nodes (Some ix) → OpensAt nodes ix
 opens_at nodes ix l =
     let k = links_of nodes in
-    let o = opens k (λ i. ⊤) ix (record { spelled = l.spelled; each = always (forest_at k (Some ix)) }) in
+    let o = opens k (λ i. ⊤) ix (record { spelled = l.spelled; each = Each-always (forest_at k (Some ix)) }) in
     record {
       within = o.within;
       after = record { spelled = o.after.spelled };
@@ -64,11 +61,6 @@ or-or false b c = refl
 and-and : (a b c : Bool) → ((a && b) && c) ≡ (a && (b && c))
 and-and true b c = refl
 and-and false b c = refl
-
--- a test that fails adds nothing
-or-none : (a : Bool) → (a || false) ≡ a
-or-none true = refl
-or-none false = refl
 
 -- a test that passes takes nothing away
 and-all : (a : Bool) → (a && true) ≡ a
@@ -109,10 +101,10 @@ pub tells_all : (nodes : List (Node Item)) (first link : Option ℕ) (kinds : Ch
 tells_all nodes first link kinds w e =
     let none : trees_at nodes link ≡ nil = ap (trees_at nodes) e ∙ trees_at-none nodes in
     record {
-      any_open = sym (or-none kinds.any_open) ∙ (sym (ap (λ c. kinds.any_open || has_open c) none) ∙ w.any_open);
+      any_open = sym (or-false kinds.any_open) ∙ (sym (ap (λ c. kinds.any_open || has_open c) none) ∙ w.any_open);
       only_inline = sym (and-all kinds.only_inline)
           ∙ (sym (ap (λ c. kinds.only_inline && all_inline c) none) ∙ w.only_inline);
-      any_tight = sym (or-none kinds.any_tight)
+      any_tight = sym (or-false kinds.any_tight)
           ∙ (sym (ap (λ c. kinds.any_tight || has_tight_paragraph c) none) ∙ w.any_tight);
     }
 

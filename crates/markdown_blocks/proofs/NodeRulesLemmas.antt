@@ -6,24 +6,19 @@ use Rattle.markdown_base.specs.declared.block_parts.BlockParts.{BlockParts}
 use Rattle.markdown_base.specs.declared.item.Item.{Item}
 use Rattle.markdown_base.specs.declared.node.Node.{Node}
 use Rattle.markdown_base.specs.Arena.{child_of, sibling_of}
-use Rattle.markdown_base.specs.ArenaForest.{Links, links_of, Spells, forest_at, numbers_below}
+use Rattle.markdown_base.specs.ArenaForest.{links_of, Spells, numbers_below}
 use Rattle.markdown_base.specs.ArenaRules.{NodeKeepsRules}
 use Rattle.markdown_base.specs.BlockTree.{Numbered, numbered, tree_of}
 use Rattle.markdown_base.specs.Forest.{Forest, nil, node, Each, preorder}
 use Rattle.markdown_base.specs.WellFormed.{IsReachedOnce, PartCounts, counts_of, AllKeepRules, has_open, all_named}
 use Rattle.markdown_base.specs.WellFormed.{IsWellFormed}
-use Rattle.markdown_base.proofs.ArenaForestLemmas.{height, height-followed, forest_at-fits}
+use Rattle.markdown_base.proofs.ArenaForestLemmas.{forest_at-height, height, forest_at-fits}
 use Rattle.markdown_base.proofs.ArenaRulesLemmas.{by_number}
 use Rattle.markdown_base.proofs.ForestLemmas.{All-append, preorder-Each, Each-preorder, preorder-relabelled}
 use Rattle.markdown_base.proofs.WellFormedLemmas.{texts_there, alignments_there}
 use Rattle.markdown_blocks.specs.declared.named.NamedPart.{NamedPart}
 use Rattle.markdown_blocks.specs.declared.named.NamedPart.TheVariants.{Text, Alignments}
 use Rattle.markdown_blocks.specs.NodeRules.{LeadsOn, IsReachable, part_named, names_of, AreNamedOnce}
-
--- the forest that links lead through is no higher than there are nodes
-forest_at-height : (k : Links) (l : Option ℕ) → height (forest_at k l) ≤ k.size
-unfolding forest_at
-forest_at-height k l = height-followed k.size k l
 
 -- a link that is spelled leads on
 leads_on : (nodes : List (Node Item)) (l : Option ℕ) (f : Forest ℕ) → Spells (links_of nodes) l f

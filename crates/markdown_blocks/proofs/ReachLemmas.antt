@@ -1,8 +1,8 @@
 -- A search that marks the nodes that it reaches finds the forest below the root, where there is
 -- one and no node is reached twice.
 use Rattle.std.proofs.Common.{◌≡◌, ℕ, suc, ◌+◌, ◌*◌, ◌<◌, ◌≤◌, List, [], ◌∷◌, ◌++◌, Option, Some, None, Bool, true}
-use Rattle.std.proofs.Common.{false, length, get_or}
-use Rattle.std.proofs.Common.{set, replicate, reverse, refl, sym, ap, ◌∙◌, arith, append_assoc, append-nil, length-set}
+use Rattle.std.proofs.Common.{false, length, get_or, set, replicate, reverse, refl, sym, ap, ◌∙◌, arith, append_assoc}
+use Rattle.std.proofs.Common.{append-nil, length-set}
 use Rattle.std.specs.Prelude.{⊤, IsTrue, ◌↔◌}
 use Rattle.std.specs.Bool.{OnTrue}
 use Rattle.std.specs.List.{AllByRecursion}
@@ -13,11 +13,10 @@ use Rattle.markdown_base.specs.Arena.{child_of}
 use Rattle.markdown_base.specs.ArenaForest.{Links, links_of, Spells, forest_at, numbers_below}
 use Rattle.markdown_base.specs.Forest.{Forest, nil, node, preorder}
 use Rattle.markdown_base.specs.WellFormed.{IsReachedOnce}
-use Rattle.markdown_base.proofs.ArenaForestLemmas.{height, forest_at-fits}
+use Rattle.markdown_base.proofs.ArenaForestLemmas.{height-preorder, forest_at-fits}
 use Rattle.markdown_base.proofs.ForestLemmas.{All-append}
 use Rattle.markdown_blocks.proofs.SeenLemmas.{Fresh, unmarked, unset, unset-set, Fresh-unmarked_length}
-use Rattle.markdown_blocks.proofs.SeenLemmas.{AreNamedOnce-from_Fresh}
-use Rattle.markdown_blocks.proofs.SeenLemmas.{Fresh-from_AreNamedOnce}
+use Rattle.markdown_blocks.proofs.SeenLemmas.{AreNamedOnce-from_Fresh, Fresh-from_AreNamedOnce}
 
 -- the links below the root lead through a forest with the numbers xs in preorder, and no number
 -- comes twice, nor the root's
@@ -211,11 +210,6 @@ pub found_end : (k : Links) (seen : List Bool) (old : List (Option ℕ)) (done :
     → IsFound k seen (reverse old) done → length old ≡ 0 → IsPreorder k done
 found_end k seen [] done w e = found_all k seen done w
 found_end k seen (l ∷ ls) done w e = absurd (omega (arith, e))
-
--- a forest is no higher than it has nodes
-height-preorder : (f : Forest ℕ) → height f ≤ length (preorder f)
-height-preorder nil = omega arith
-height-preorder (node i below after) = simp length-append (omega (arith, height-preorder below, height-preorder after))
 
 -- the nodes of a forest that links lead through are there
 spelled_within : (k : Links) (l : Option ℕ) (f : Forest ℕ) → Spells k l f

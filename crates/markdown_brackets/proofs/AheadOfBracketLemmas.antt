@@ -3,6 +3,7 @@ use Rattle.std.proofs.Common.{◌≡◌, ℕ, ◌+◌, ◌-◌, ◌<◌, Bool, t
 use Rattle.std.proofs.Common.{◌∙◌, ap, arith, drop, nat_lt}
 use Rattle.std.specs.Prelude.{if◌then◌else◌}
 use Rattle.std.specs.Option.{option_and_then, option_map}
+use Rattle.std.proofs.lemmas.Bool.{ltb-true, lt-ltb, le-ltb}
 use Rattle.markdown_base.specs.Arena.{sibling_of}
 use Rattle.markdown_base.specs.ArenaForest.{links_of, forest_at}
 use Rattle.markdown_base.specs.BlockTree.{item_at}
@@ -21,7 +22,7 @@ use Rattle.markdown_brackets.specs.ChainHeld.{Holds, numbers_of}
 use Rattle.markdown_brackets.specs.Reference.{FoundLabel, Form, reference, collapsed, shortcut, form_at, form_by_label}
 use Rattle.markdown_brackets.specs.Reference.{is_closing_bracket, is_opener, bracket_label, stands_at}
 use Rattle.markdown_brackets.specs.declared.footnote.FootnoteStyle.{FootnoteStyle}
-use Rattle.markdown_brackets.proofs.ChainAheadLemmas.{below_is, not_below_is, is_below, is_not_below}
+use Rattle.markdown_brackets.proofs.ChainAheadLemmas.{is_not_below}
 
 -- a bracket reads as an open one, and nothing else does
 brackets_read : (tables : Tables) (source : List ℕ) (b : ItemBody)
@@ -83,9 +84,9 @@ module _ (source : List ℕ) (tables : Tables) (nodes : List (Node Item)) where
           → begins_with_closer nodes i (if nat_lt (i - 1) (end_of a) then node a.note (numbers_of below)
           (numbers_of after) else numbers_past nodes (i - 1) (numbers_of after))
           ≡ (if d then closer_ends_at i after else is_closing_bracket (open_body a.part.shape) && (end_of a == i))
-      by true e more = rw (not_below_is (i - 1) (end_of a) (omega (arith, is_below (end_of a) i e))) more
+      by true e more = rw (le-ltb (i - 1) (end_of a) (omega (arith, ltb-true (end_of a) i e))) more
       by false e more = rw (
-        below_is (i - 1) (end_of a) (omega (arith, is_not_below (end_of a) i e, some)),
+        lt-ltb (i - 1) (end_of a) (omega (arith, is_not_below (end_of a) i e, some)),
         same_closer a h.2,
         same_end a h.2,
       ) refl

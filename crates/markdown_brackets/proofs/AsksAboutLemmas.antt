@@ -1,7 +1,7 @@
 -- What a `]` asks about: the label that follows it, whose `]` is used up then, or the label that ends with it, if it
 -- could be a reference; at most one question, and none at a limit of 0.
-use Rattle.std.proofs.Common.{◌≡◌, ◌⊎◌, inl, inr, ⊎_elim, ℕ, ◌+◌, Bool, true, false, ◌&&◌, List, [], ◌∷◌, ◌++◌}
-use Rattle.std.proofs.Common.{Option, Some, None, ap, refl, sym, subst, append-nil, drop, if◌then◌else◌}
+use Rattle.std.proofs.Common.{◌≡◌, ◌⊎◌, inl, inr, ⊎_elim, ℕ, ◌+◌, Bool, true, false, ◌&&◌, List, [], ◌∷◌, ◌++◌, Option}
+use Rattle.std.proofs.Common.{Some, None, ap, refl, sym, subst, append-nil, drop, if◌then◌else◌}
 use Rattle.markdown_base.specs.Forest.{first_root}
 use Rattle.std.specs.Option.{option_map}
 use Rattle.markdown_base.specs.Questions.{Question, Answers, Answer}
@@ -17,8 +17,7 @@ use Rattle.markdown_brackets.specs.ClosingBracket.{closed, put}
 use Rattle.markdown_brackets.specs.LeftList.{Split, bracket_taken}
 use Rattle.markdown_brackets.specs.Lookup.{LookedUp, look_up, answered}
 use Rattle.markdown_brackets.specs.Reference.{FoundLabel, collapsed, form_by_label, is_closing_bracket, is_opener}
-use Rattle.markdown_brackets.specs.Reference.{bracket_label}
-use Rattle.markdown_brackets.specs.Reference.{reference, shortcut, stands_at}
+use Rattle.markdown_brackets.specs.Reference.{bracket_label, reference, shortcut, stands_at}
 use Rattle.markdown_brackets.proofs.ClosingBracketLemmas.{IsFull, IsOwn, either, found_cases}
 use Rattle.markdown_brackets.proofs.LabelPairLemmas.{IsLabelFrom, label_from}
 use Rattle.markdown_brackets.proofs.LookupLawsLemmas.{of_look_up}

@@ -1,7 +1,6 @@
 -- Brackets do not depend on notes: what a `]` becomes is decided by the parts of nodes only, and its effect on a left
 -- list with other notes is its effect on the list, with those notes.
-use Rattle.std.proofs.Common.{◌≡◌, ℕ, Bool, true, false, List, [], ◌∷◌, Option, Some, None, refl, ap, ◌∙◌}
-use Rattle.std.proofs.Common.{nat_le}
+use Rattle.std.proofs.Common.{◌≡◌, ℕ, Bool, true, false, List, [], ◌∷◌, Option, Some, None, refl, ap, ◌∙◌, nat_le}
 use Rattle.std.proofs.Math.Path.{fun_ext}
 use Rattle.std.specs.Prelude.{if◌then◌else◌, unwrap_or, ◌+◌}
 use Rattle.std.specs.Option.{option_map, option_and_then, option_or}
@@ -22,16 +21,15 @@ use Rattle.markdown_brackets.specs.BracketDecision.{label_of_opener, left_for_on
 use Rattle.markdown_brackets.specs.BracketDecision.{own_written, past_second, question_at, reference_written}
 use Rattle.markdown_brackets.specs.BracketDecision.{second_end, shown_children, start_of_first_past, to_be, wikilink}
 use Rattle.markdown_brackets.specs.BracketDecision.{wikilink_by, wikilink_found, wikilink_in, written}
-use Rattle.markdown_brackets.specs.FootnoteUse.{footnote_style}
+use Rattle.markdown_brackets.specs.FootnoteUse.{footnote_style, is_reference}
 use Rattle.markdown_brackets.specs.BracketNotes.{ReaderFollows, BracketNoteLaw, annotate_entry, annotate_left}
 use Rattle.markdown_brackets.specs.BracketNotes.{annotate_progress}
 use Rattle.markdown_brackets.specs.ClosingBracket.{closed, footnote_onto, put, put_decided}
-use Rattle.markdown_brackets.specs.FootnoteUse.{is_reference}
 use Rattle.markdown_brackets.specs.LeftList.{Entry, OpenerState, Split, before_footnote, before_link, before_wikilink}
-use Rattle.markdown_brackets.specs.LeftList.{with_entry}
-use Rattle.markdown_brackets.specs.LeftList.{bracket_taken, change_nearest, disabled_state, done, inside, is_live}
-use Rattle.markdown_brackets.specs.LeftList.{nearest, on_state, on_states, opens_bracket, opens_wikilink, second_folded}
-use Rattle.markdown_brackets.specs.LeftList.{trees_onto, waits, wikilink_taken, without_bracket, without_wikilink}
+use Rattle.markdown_brackets.specs.LeftList.{with_entry, bracket_taken, change_nearest, disabled_state, done, inside}
+use Rattle.markdown_brackets.specs.LeftList.{is_live, nearest, on_state, on_states, opens_bracket, opens_wikilink}
+use Rattle.markdown_brackets.specs.LeftList.{second_folded, trees_onto, waits, wikilink_taken, without_bracket}
+use Rattle.markdown_brackets.specs.LeftList.{without_wikilink}
 use Rattle.markdown_brackets.specs.LinkTail.{LinkTail, link_tail}
 use Rattle.markdown_brackets.specs.Lookup.{LookedUp, look_up}
 use Rattle.markdown_brackets.specs.ReadChain.{Reader, closing_of, is_next, opened, read, read_as, read_chain, read_past}

@@ -1,19 +1,15 @@
 -- A left list and its `]` in an arena: their parts are chains of the arena.
 use Rattle.std.proofs.Common.{◌≡◌, ℕ, ◌≤◌, List, Option, length, arith}
 use Rattle.markdown_base.specs.Arena.{sibling_of}
-use Rattle.markdown_base.specs.ArenaForest.{Links, links_of, forest_at}
+use Rattle.markdown_base.specs.ArenaForest.{links_of, forest_at}
 use Rattle.markdown_base.specs.Forest.{Forest, node}
 use Rattle.markdown_base.specs.declared.item.Item.{Item}
 use Rattle.markdown_base.specs.declared.node.Node.{Node}
-use Rattle.markdown_base.proofs.ArenaForestLemmas.{height, height-followed, forest_at-fits}
+use Rattle.markdown_base.proofs.ArenaForestLemmas.{height, forest_at-fits}
 use Rattle.markdown_document.specs.Document.{TreeNode}
 use Rattle.markdown_document.specs.Tables.{Tables}
 use Rattle.markdown_brackets.specs.ChainHeld.{Holds, numbers_of}
 use Rattle.markdown_brackets.proofs.HeldTreesLemmas.{Holds-spells}
-
-pub height_found : (k : Links) (l : Option ℕ) → height (forest_at k l) ≤ k.size
-unfolding forest_at
-height_found k l = height-followed k.size k l
 
 module _ (source : List ℕ) (tables : Tables) (nodes : List (Node Item)) where
   -- trees that an arena contains, whose height is at most the number of its nodes, are those that the links lead

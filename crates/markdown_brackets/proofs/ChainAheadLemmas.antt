@@ -3,6 +3,7 @@ use Rattle.std.proofs.Common.{◌≡◌, ℕ, ◌<◌, ◌≤◌, Bool, true, fa
 use Rattle.std.proofs.Common.{◌∙◌, arith, nat_lt, ap}
 use Rattle.std.specs.Prelude.{if◌then◌else◌, ⊤}
 use Rattle.std.proofs.lemmas.Bool.Decides.{nat_tests}
+use Rattle.std.proofs.lemmas.Bool.{lt-ltb, le-ltb}
 use Rattle.markdown_base.specs.Arena.{child_of, sibling_of}
 use Rattle.markdown_base.specs.ArenaForest.{links_of, forest_at}
 use Rattle.markdown_base.specs.BlockTree.{item_at}
@@ -26,21 +27,12 @@ pub record StepsOn (nodes : List (Node Item)) (byte ix : ℕ) (past : Forest ℕ
   pub passes : (item_at nodes ix).end ≤ byte
       → numbers_past nodes byte (forest_at (links_of nodes) (sibling_of nodes ix)) ≡ past
 
-pub below_is : (i j : ℕ) → i < j → nat_lt i j ≡ true
-below_is i j h = grind (arith, nat_tests)
-
-pub not_below_is : (i j : ℕ) → j ≤ i → nat_lt i j ≡ false
-not_below_is i j h = grind (arith, nat_tests)
-
-pub is_below : (i j : ℕ) → nat_lt i j ≡ true → i < j
-is_below i j h = grind (arith, nat_tests)
-
 pub is_not_below : (i j : ℕ) → nat_lt i j ≡ false → j ≤ i
 is_not_below i j h = grind (arith, nat_tests)
 
 past_goes : (nodes : List (Node Item)) (byte ix : ℕ) (below after : Forest ℕ) → (item_at nodes ix).end ≤ byte
     → numbers_past nodes byte (node ix below after) ≡ numbers_past nodes byte after
-past_goes nodes byte ix below after h = rw (not_below_is byte (item_at nodes ix).end h) refl
+past_goes nodes byte ix below after h = rw (le-ltb byte (item_at nodes ix).end h) refl
 
 pub steps_at : (nodes : List (Node Item)) (byte : ℕ) (link : Option ℕ) (ix : ℕ) (past : Forest ℕ) → link ≡ Some ix
     → IsChain nodes link → numbers_past nodes byte (forest_at (links_of nodes) link) ≡ past → StepsOn nodes byte ix past
@@ -50,7 +42,7 @@ steps_at nodes byte link ix past e chain same =
     (forest_at (links_of nodes) (sibling_of nodes ix)) in
     let here : numbers_past nodes byte all ≡ past = rw (e, o.here) at same in
     let stays : byte < (item_at nodes ix).end → all ≡ past = λ h.
-    rw (below_is byte (item_at nodes ix).end h) at here in
+    rw (lt-ltb byte (item_at nodes ix).end h) at here in
     record {
       within = o.within;
       later = o.after;

@@ -12,9 +12,8 @@ use Rattle.markdown_document.specs.Setting.{ReferenceState}
 use Rattle.markdown_brackets.specs.BracketDecision.{BracketContext, Closing, Progress}
 use Rattle.markdown_brackets.specs.ChainBegins.{BeginsLaw, BeginsSo, BeginsWith, trees_of}
 use Rattle.markdown_brackets.specs.ClosingBracket.{footnote_onto}
-use Rattle.markdown_brackets.specs.LeftList.{Entry, OpenerState, Split, before_footnote}
-use Rattle.markdown_brackets.specs.LeftList.{done, nearest, opens_bracket, opens_wikilink}
-use Rattle.markdown_brackets.specs.LeftList.{trees_onto, waits, without_bracket, without_wikilink}
+use Rattle.markdown_brackets.specs.LeftList.{Entry, OpenerState, Split, before_footnote, done, nearest, opens_bracket}
+use Rattle.markdown_brackets.specs.LeftList.{opens_wikilink, trees_onto, waits, without_bracket, without_wikilink}
 use Rattle.markdown_brackets.specs.ReadChain.{Reader, begun, closing_of, read, read_as, read_chain}
 use Rattle.markdown_brackets.proofs.ClosingBracketLemmas.{Cases, in_each_case}
 use Rattle.markdown_brackets.proofs.LeftListLemmas.{Marked, same_change, same_before_link, same_before_wikilink}

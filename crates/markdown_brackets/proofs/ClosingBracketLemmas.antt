@@ -3,24 +3,24 @@
 use Rattle.std.proofs.Common.{◌≡◌, ◌⊎◌, inl, inr, ℕ, ◌+◌, Bool, true, false, List, [], ◌∷◌, Option, Some, None, refl}
 use Rattle.std.proofs.Common.{subst}
 use Rattle.std.specs.Prelude.{IfSome, if◌then◌else◌, unwrap_or}
-use Rattle.std.specs.Option.{option_and_then, option_map, option_or}
+use Rattle.std.specs.Option.{option_and_then, option_map}
 use Rattle.markdown_base.specs.Event.{LinkView}
 use Rattle.markdown_base.specs.Forest.{nil}
 use Rattle.markdown_base.specs.declared.tag.LinkType.{LinkType}
 use Rattle.markdown_base.specs.declared.tag.LinkType.TheVariants as kind
+use Rattle.markdown_base.proofs.OptionLemmas.{if_or}
 use Rattle.markdown_document.specs.Document.{Origin, as_text}
 use Rattle.markdown_document.specs.ChainRest.{start_of, end_of}
-use Rattle.markdown_brackets.specs.FootnoteUse.{footnote_style}
+use Rattle.markdown_brackets.specs.FootnoteUse.{footnote_style, is_reference}
 use Rattle.markdown_brackets.specs.BracketDecision.{BracketContext, Closing, Written, LinkReference, Progress, Wikilink}
-use Rattle.markdown_brackets.specs.BracketDecision.{a_link, inline_title}
-use Rattle.markdown_brackets.specs.BracketDecision.{a_text, block_text, bracket_found, carried_out, closer_ends_at}
-use Rattle.markdown_brackets.specs.BracketDecision.{decided, footnote_label, footnote_written, form_of, found, full}
-use Rattle.markdown_brackets.specs.BracketDecision.{inline_link, inline_target, label_of_opener, left_for_one, lines}
-use Rattle.markdown_brackets.specs.BracketDecision.{link_reference, looked_up, own_written, past_second, question_at}
-use Rattle.markdown_brackets.specs.BracketDecision.{reference_written, second_end, start_of_first_past, wikilink}
-use Rattle.markdown_brackets.specs.BracketDecision.{wikilink_found, wikilink_in, written}
+use Rattle.markdown_brackets.specs.BracketDecision.{a_link, inline_title, a_text, block_text, bracket_found}
+use Rattle.markdown_brackets.specs.BracketDecision.{carried_out, closer_ends_at, decided, footnote_label}
+use Rattle.markdown_brackets.specs.BracketDecision.{footnote_written, form_of, found, full, inline_link, inline_target}
+use Rattle.markdown_brackets.specs.BracketDecision.{label_of_opener, left_for_one, lines, link_reference, looked_up}
+use Rattle.markdown_brackets.specs.BracketDecision.{own_written, past_second, question_at, reference_written}
+use Rattle.markdown_brackets.specs.BracketDecision.{second_end, start_of_first_past, wikilink, wikilink_found}
+use Rattle.markdown_brackets.specs.BracketDecision.{wikilink_in, written}
 use Rattle.markdown_brackets.specs.ClosingBracket.{closed, footnote_onto, linked, put, put_decided, wikilink_target}
-use Rattle.markdown_brackets.specs.FootnoteUse.{is_reference}
 use Rattle.markdown_brackets.specs.LeftList.{Entry, Split, before_footnote, before_link, before_wikilink, bracket_taken}
 use Rattle.markdown_brackets.specs.LeftList.{done, inside, is_live, nearest, opens_bracket, opens_wikilink}
 use Rattle.markdown_brackets.specs.LeftList.{wikilink_taken}
@@ -36,11 +36,6 @@ some_of o x p e h = subst (λ (o : Option _). IfSome o p) e h
 pub either : {X : Type 0} (p : Option X → Type 0) (o : Option X) → p None → IfSome o (λ x. p (Some x)) → p o
 either p None none some = none
 either p (Some x) none some = some
-
--- what holds of what is found first, step by step, under a test, and as something else
-if_or : {X : Type 0} (p : X → Type 0) (a b : Option X) → IfSome a p → IfSome b p → IfSome (option_or a b) p
-if_or p None b h k = k
-if_or p (Some x) b h k = h
 
 if_then : {X Y : Type 0} (p : Y → Type 0) (f : X → Option Y) (o : Option X) → ((x : X) → o ≡ Some x → IfSome (f x) p)
     → IfSome (option_and_then f o) p

@@ -21,14 +21,11 @@ use Rattle.markdown_defs.specs.Folding.{is_match}
 use Rattle.markdown_defs.specs.Footnotes.{footnote_at}
 use Rattle.markdown_defs.specs.FootnoteCounts as footnotes
 use Rattle.markdown_brackets.specs.BracketDecision.{BracketContext, Becomes, Written, LinkReference, Progress, a_text}
-use Rattle.markdown_brackets.specs.BracketDecision.{a_link}
-use Rattle.markdown_brackets.specs.BracketDecision.{a_footnote, carried_out, footnote_label, footnote_written}
+use Rattle.markdown_brackets.specs.BracketDecision.{a_link, a_footnote, carried_out, footnote_label, footnote_written}
 use Rattle.markdown_brackets.specs.BracketDecision.{inline_link, inline_target, inline_title, link_reference, looked_up}
-use Rattle.markdown_brackets.specs.BracketDecision.{names_read}
-use Rattle.markdown_brackets.specs.BracketDecision.{question_at, to_be, uses_once_more}
-use Rattle.markdown_brackets.specs.FootnoteUse.{footnote_style}
+use Rattle.markdown_brackets.specs.BracketDecision.{names_read, question_at, to_be, uses_once_more}
+use Rattle.markdown_brackets.specs.FootnoteUse.{footnote_style, is_reference}
 use Rattle.markdown_brackets.specs.DecisionView.{IsBecome, knowing}
-use Rattle.markdown_brackets.specs.FootnoteUse.{is_reference}
 use Rattle.markdown_brackets.specs.LeftList.{Split}
 use Rattle.markdown_brackets.specs.LinkTail as scanned
 use Rattle.markdown_brackets.specs.LinkTailView.{IsTail, ReadsTail}

@@ -1,6 +1,5 @@
 -- The decision at a `]` is the wikilink that was found, or what its opener comes to.
-use Rattle.std.proofs.Common.{◌≡◌, ℕ, ◌++◌, Bool, List, [], Option, Some, None, refl, sym, ◌∙◌, ap}
-use Rattle.std.proofs.Common.{append-nil}
+use Rattle.std.proofs.Common.{◌≡◌, ℕ, ◌++◌, Bool, List, [], Option, Some, None, refl, sym, ◌∙◌, ap, append-nil}
 use Rattle.std.specs.Option.{option_and_then}
 use Rattle.std.specs.Prelude.{IfSome}
 use Rattle.markdown_base.specs.Arena.{sibling_of}
@@ -10,8 +9,7 @@ use Rattle.markdown_base.specs.declared.item.Item.{Item}
 use Rattle.markdown_base.specs.declared.node.Node.{Node}
 use Rattle.markdown_document.specs.Setting.{ReferenceState, uses_of}
 use Rattle.markdown_brackets.specs.BracketDecision.{BracketContext, Closing, Decision, Progress, a_wikilink}
-use Rattle.markdown_brackets.specs.BracketDecision.{bracket_found}
-use Rattle.markdown_brackets.specs.BracketDecision.{to_be}
+use Rattle.markdown_brackets.specs.BracketDecision.{bracket_found, to_be}
 use Rattle.markdown_brackets.specs.Decides.{Decides, StandsBefore}
 use Rattle.markdown_brackets.specs.DecisionView.{knowing}
 use Rattle.markdown_brackets.specs.LeftList.{Entry, Split, nearest, opens_bracket, without_bracket, bracket_taken}

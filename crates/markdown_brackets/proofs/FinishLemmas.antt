@@ -1,27 +1,27 @@
 -- What is added to a left list takes openers off the stacks: numbers rise along the list, so that an opener and all
 -- after it are removed, and those before it stay; only the one just before it leads to it.
-use Rattle.std.proofs.Common.{◌≡◌, ℕ, ◌<◌, ◌≤◌, ◌==◌, Bool, true, false, List, [], ◌∷◌, ◌++◌, Option, Some, map, nat_le}
-use Rattle.std.proofs.Common.{refl, sym, ◌∙◌, ap, subst, arith}
+use Rattle.std.proofs.Common.{◌≡◌, ℕ, ◌<◌, ◌≤◌, Bool, true, false, List, [], ◌∷◌, ◌++◌, Option, Some, map, nat_le, refl}
+use Rattle.std.proofs.Common.{sym, ◌∙◌, ap, subst, arith}
 use Rattle.std.specs.Prelude.{if◌then◌else◌, ⊤}
-use Rattle.std.proofs.lemmas.Bool.Decides.{nat_tests}
+use Rattle.std.proofs.lemmas.Bool.{lt-leb, le-leb}
 use Rattle.markdown_base.specs.Arena.{sibling_of}
 use Rattle.markdown_base.specs.Forest.{Forest, nil, node, roots}
 use Rattle.markdown_base.specs.declared.item.Item.{Item}
 use Rattle.markdown_base.specs.declared.node.Node.{Node}
+use Rattle.markdown_base.proofs.BoolLemmas.{less_is_other, is_itself}
 use Rattle.markdown_document.specs.Document.{TreeNode}
 use Rattle.markdown_document.specs.Tables.{Tables}
 use Rattle.markdown_brackets.specs.BracketDecision.{BracketContext, Becomes, Closing, Progress, a_footnote, a_link}
-use Rattle.markdown_brackets.specs.BracketDecision.{a_text}
-use Rattle.markdown_brackets.specs.BracketDecision.{a_wikilink}
+use Rattle.markdown_brackets.specs.BracketDecision.{a_text, a_wikilink}
 use Rattle.markdown_brackets.specs.ChainHeld.{Holds, numbers_of}
 use Rattle.markdown_brackets.specs.ClosingBracket.{footnote_onto, put}
 use Rattle.markdown_brackets.specs.DecisionView.{IsBecome}
 use Rattle.markdown_brackets.specs.Decides.{EachOpener, StandsBefore}
 use Rattle.markdown_brackets.specs.Finish.{AreNumbersAfter, AreRising, IsSplit, LeftRises, SplitsAs}
 use Rattle.markdown_brackets.specs.LeftList.{Entry, Flag, OpenerState, Split, before_footnote, before_link}
-use Rattle.markdown_brackets.specs.LeftList.{before_wikilink}
-use Rattle.markdown_brackets.specs.LeftList.{disabled, disabled_flag, disabled_state, done, gone, on_states}
-use Rattle.markdown_brackets.specs.LeftList.{second_folded, trees_onto, waits, without_bracket, without_wikilink}
+use Rattle.markdown_brackets.specs.LeftList.{before_wikilink, disabled, disabled_flag, disabled_state, done, gone}
+use Rattle.markdown_brackets.specs.LeftList.{on_states, second_folded, trees_onto, waits, without_bracket}
+use Rattle.markdown_brackets.specs.LeftList.{without_wikilink}
 use Rattle.markdown_brackets.specs.HeldOpeners.{brackets_of, held_as, wikilinks_of}
 use Rattle.markdown_brackets.specs.Openers.{Waiting, before}
 use Rattle.markdown_brackets.specs.Openers as openers
@@ -30,7 +30,6 @@ use Rattle.markdown_brackets.specs.declared.closing_bracket.ClosedBracket.{Close
 use Rattle.markdown_brackets.specs.declared.closing_bracket.ClosedBracket.TheVariants.{Text, Link, Footnote, Wikilinked}
 use Rattle.markdown_brackets.specs.declared.openers.Opener.{Opener}
 use Rattle.markdown_brackets.proofs.HeldTreesLemmas.{Holds-from}
-use Rattle.markdown_brackets.proofs.OpenerLemmas.{le_true, lt_false}
 use Rattle.markdown_brackets.proofs.LeftListLemmas.{onto_append}
 use Rattle.markdown_brackets.proofs.OpenerHeldLemmas.{for_bracket, for_wikilink}
 
@@ -131,12 +130,12 @@ goes : (n number : ℕ) (is_image : Bool) (f : Flag) (held : List Waiting) → n
     → before n (held_as number is_image f held)
     ≡ before n held
 goes n number is_image gone held le = refl
-goes n number is_image other held le = rw (le_true n number le) refl
+goes n number is_image other held le = rw (le-leb n number le) refl
 
 stays : (n number : ℕ) (is_image : Bool) (f : Flag) (held : List Waiting) → number < n → before n held ≡ held
     → before n (held_as number is_image f held) ≡ held_as number is_image f held
 stays n number is_image gone held lt e = e
-stays n number is_image other held lt e = rw (lt_false n number lt) refl
+stays n number is_image other held lt e = rw (lt-leb n number lt) refl
 
 goes_all : (flag : OpenerState → Flag) (n : ℕ) (after left : List (Entry ℕ)) → AreAfter n after
     → before n (held_by flag (after ++ left))
@@ -164,19 +163,12 @@ before_opener flag nodes m a after left h links =
     ∙ goes a.note a.note m.is_image (flag m) (held_by flag left) (omega arith)
     ∙ stays_all flag nodes a.note a.note left links (omega arith)
 
--- an opener that is not the last entry before a node leads not to it
-same_number : (n : ℕ) → (n == n) ≡ true
-same_number n = grind (arith, nat_tests)
-
-other_number : (m n : ℕ) → m < n → (m == n) ≡ false
-other_number m n lt = grind (arith, nat_tests)
-
 far_one : (nodes : List (Node Item)) (n next number : ℕ) (is_image : Bool) (f : Flag) (held : List Waiting)
     → sibling_of nodes number ≡ Some next → next < n
     → without_second nodes n held ≡ held → without_second nodes n (held_as number is_image f held)
     ≡ held_as number is_image f held
 far_one nodes n next number is_image gone held e lt rest = rest
-far_one nodes n next number is_image other held e lt rest = rw (e, other_number next n lt) refl
+far_one nodes n next number is_image other held e lt rest = rw (e, less_is_other next n lt) refl
 
 far : (flag : OpenerState → Flag) (nodes : List (Node Item)) (n next : ℕ) (left : List (Entry ℕ))
     → LinksOn nodes next left
@@ -195,7 +187,7 @@ near_one : (nodes : List (Node Item)) (n number : ℕ) (is_image : Bool) (f : Fl
     → without_second nodes n (held_as number is_image f held) ≡ held
 near_one nodes n number is_image gone held e rest none = none
 near_one nodes n number is_image f held e rest none =
-    rw (e, same_number n) (goes number number is_image f held (omega arith) ∙ rest)
+    rw (e, is_itself n) (goes number number is_image f held (omega arith) ∙ rest)
 
 second_gone : (nodes : List (Node Item)) (n : ℕ) (left : List (Entry ℕ)) → LinksOn nodes n left
     → without_second nodes n (held_by for_wikilink left) ≡ held_by for_wikilink (second_folded left)

@@ -1,19 +1,19 @@
 -- In a link label no `[` is directly after a `]`: one of the two would end the label, or forbid it. So no two labels
 -- end at the same byte offset if the second begins directly after a `]` in the first.
-use Rattle.std.proofs.Common.{◌≡◌, ℕ, zero, suc, ◌+◌, ◌-◌, ◌<◌, Bool, true, false, ◌||◌, List, [], ◌∷◌, Option}
-use Rattle.std.proofs.Common.{Some, None, length, refl, sym, ap, subst, ◌∙◌, arith, take, drop, get_or, drop-cons}
-use Rattle.std.proofs.Common.{length-drop, if◌then◌else◌, is_none, unwrap_or, nat_eq}
+use Rattle.std.proofs.Common.{◌≡◌, ℕ, zero, suc, ◌+◌, ◌-◌, ◌<◌, Bool, true, false, List, [], ◌∷◌, Option, Some, None}
+use Rattle.std.proofs.Common.{length, refl, sym, ap, subst, ◌∙◌, arith, take, drop, get_or, drop-cons, length-drop}
+use Rattle.std.proofs.Common.{if◌then◌else◌, is_none, unwrap_or, nat_eq}
 use Rattle.std.specs.List.{list_any}
 use Rattle.std.proofs.lemmas.Bool.Decides.{nat_tests}
 use Rattle.std.proofs.lemmas.List.{drop-drop}
 use Rattle.std.proofs.lemmas.Option.{none-some, same_Some}
 use Rattle.markdown_base.specs.Bytes.{backslash}
+use Rattle.markdown_base.proofs.BoolLemmas.{or_second}
 use Rattle.markdown_scan.specs.Backslash.{is_bare}
 use Rattle.markdown_scan.specs.Label.{refused, body, label_bytes, put_before}
 use Rattle.markdown_scan.specs.LinePrefix.{ends_line, prefix_after}
 use Rattle.markdown_brackets.specs.QuestionEnds.{HoldsNoOpener}
-use Rattle.markdown_brackets.specs.Reference.{FoundLabel}
-use Rattle.markdown_brackets.specs.Reference.{bracket_label}
+use Rattle.markdown_brackets.specs.Reference.{FoundLabel, bracket_label}
 use Rattle.markdown_brackets.specs.declared.footnote.FootnoteStyle.{FootnoteStyle}
 use Rattle.markdown_brackets.proofs.LabelLengthLemmas.{label_read}
 
@@ -35,10 +35,6 @@ one_more x None k text e = absurd (none-some (k, text) e)
 one_more x (Some f) k text e =
     let same = ap (λ (p : ℕ × List ℕ). p.0) (same_Some (1 + f.0, _) (k, text) e) in
     record { place = f.0; text = f.1; found = refl; after = omega (arith, same) }
-
-or_second : (a b : Bool) → (a || b) ≡ false → b ≡ false
-or_second true b h = absurd (cc h)
-or_second false b h = h
 
 -- a line ending is no backslash
 no_backslash : (escaped : Bool) (b : ℕ) (bytes : List ℕ) → ends_line b bytes ≡ true → is_bare escaped b backslash

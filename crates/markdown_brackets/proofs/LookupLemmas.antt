@@ -1,6 +1,5 @@
 -- Look-ups, case by case.
-use Rattle.std.proofs.Common.{◌≡◌, ℕ, ◌==◌, false, [], ◌∷◌, Option, Some, None, refl, sym, ◌∙◌}
-use Rattle.std.proofs.Common.{◌<◌, MatchOption, arith}
+use Rattle.std.proofs.Common.{◌≡◌, ℕ, ◌==◌, false, [], ◌∷◌, Option, Some, None, refl, sym, ◌∙◌, ◌<◌, MatchOption, arith}
 use Rattle.std.proofs.lemmas.Bool.Decides.{nat_tests}
 use Rattle.markdown_base.specs.BlockParts.{definition_view}
 use Rattle.markdown_base.specs.Event.{LinkView}

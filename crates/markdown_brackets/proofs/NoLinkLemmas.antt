@@ -1,7 +1,7 @@
 -- After a `[` that can still become a link there is no link: so no link is enclosed in one.
 use Rattle.std.proofs.Common.{◌≡◌, ℕ, ◌-◌, Bool, true, false, not, ◌&&◌, ◌||◌, List, [], ◌∷◌, ◌++◌, Option, Some, None}
-use Rattle.std.proofs.Common.{refl, sym, subst, inl, inr, ⊎_elim, nat_le}
-use Rattle.std.specs.Prelude.{⊤, ◌⊎◌, IfSome, if◌then◌else◌}
+use Rattle.std.proofs.Common.{refl, sym, subst, ⊎_elim, nat_le}
+use Rattle.std.specs.Prelude.{⊤, IfSome, if◌then◌else◌}
 use Rattle.std.specs.Option.{option_map, option_and_then}
 use Rattle.markdown_base.specs.Event.{LinkView, link, image}
 use Rattle.markdown_base.specs.Forest.{Forest, nil, node}
@@ -9,14 +9,12 @@ use Rattle.markdown_document.specs.Document.{Origin, Shape, enclosed, TreeNode}
 use Rattle.markdown_document.specs.Setting.{ReferenceState}
 use Rattle.markdown_document.specs.ChainRest.{begun_at, past_byte, cut_shape, start_of}
 use Rattle.markdown_brackets.specs.BracketDecision.{BracketContext, Closing, Progress, Wikilink, over, text_from}
-use Rattle.markdown_brackets.specs.BracketDecision.{wikilink_in}
-use Rattle.markdown_brackets.specs.BracketDecision.{wikilink_by, shown_children, if_some, past_second}
+use Rattle.markdown_brackets.specs.BracketDecision.{wikilink_in, wikilink_by, shown_children, if_some, past_second}
 use Rattle.markdown_brackets.specs.ClosingBracket.{footnote_onto, wikilink_target, closed}
 use Rattle.markdown_brackets.specs.LeftList.{Flag, gone, OpenerState, Entry, done, waits, is_live, trees_onto, Split}
-use Rattle.markdown_brackets.specs.LeftList.{inside}
-use Rattle.markdown_brackets.specs.LeftList.{nearest, opens_bracket, opens_wikilink, without_bracket, without_wikilink}
-use Rattle.markdown_brackets.specs.LeftList.{on_states, disabled_flag, disabled_state, second_folded, before_link}
-use Rattle.markdown_brackets.specs.LeftList.{before_wikilink, before_footnote}
+use Rattle.markdown_brackets.specs.LeftList.{inside, nearest, opens_bracket, opens_wikilink, without_bracket}
+use Rattle.markdown_brackets.specs.LeftList.{without_wikilink, on_states, disabled_flag, disabled_state, second_folded}
+use Rattle.markdown_brackets.specs.LeftList.{before_link, before_wikilink, before_footnote}
 use Rattle.markdown_brackets.proofs.ClosingBracketLemmas.{Cases, in_each_case, some_of}
 use Rattle.markdown_brackets.specs.NoLinkInLink.{IsNoLink, IsFreeOfLinks, ClosesOverNone, HasNoneBelow, HasNoLinkInLink}
 use Rattle.markdown_brackets.specs.NoLinkInLink.{AreFreeTrees, HasMoreTrees}
@@ -26,11 +24,7 @@ use Rattle.markdown_brackets.specs.Wikilink.{wikilink_body}
 use Rattle.markdown_brackets.proofs.LeftListLemmas.{Marked, same_change, same_marks, same_before_link}
 use Rattle.markdown_brackets.proofs.LeftListLemmas.{same_before_wikilink, same_before_footnote, split_at}
 use Rattle.markdown_brackets.proofs.ReadChainLemmas.{Reads, chain_keeps}
-use Rattle.std.proofs.lemmas.Bool.{or_left, or_right}
-
-or_split : (a b : Bool) → (a || b) ≡ true → (a ≡ true) ⊎ (b ≡ true)
-or_split true b h = inl refl
-or_split false b h = inr h
+use Rattle.std.proofs.lemmas.Bool.{or_cases, or_left, or_right}
 
 -- a `[` that may still become a link
 abbrev is_live_link : OpenerState → Bool
@@ -48,7 +42,7 @@ Lowers f = (m : OpenerState) → is_live_link (f m) ≡ true → is_live_link m 
 lowers_flags : (i b w b' w' : Bool) → (b' ≡ true → b ≡ true) → (w' ≡ true → w ≡ true) → (not i && (b' || w')) ≡ true
     → (not i && (b || w)) ≡ true
 lowers_flags true b w b' w' p q h = h
-lowers_flags false b w b' w' p q h = ⊎_elim (λ e. or_left b w (p e)) (λ e. or_right b w (q e)) (or_split b' w' h)
+lowers_flags false b w b' w' p q h = ⊎_elim (λ e. or_left b w (p e)) (λ e. or_right b w (q e)) (or_cases b' w' h)
 
 lowers_bracket : Lowers without_bracket
 lowers_bracket m h = lowers_flags m.is_image (is_live m.bracket) (is_live m.wikilink) false (is_live m.wikilink)
@@ -231,7 +225,7 @@ module _ (addresses : Bool) where
     tree = λ a below left left' h. (h.0, λ s. (λ q. s.0 (h.0 q), s.1, h.1 s.2));
     opener = λ m n a left left' low h. (
       λ q. ⊎_elim (λ e. or_left (is_live_link m) (any_live left) (low e))
-          (λ e. or_right (is_live_link m) (any_live left) (h.0 e)) (or_split (is_live_link n) (any_live left') q),
+          (λ e. or_right (is_live_link m) (any_live left) (h.0 e)) (or_cases (is_live_link n) (any_live left') q),
       λ s. (λ q. s.0 (h.0 q), s.1, h.1 s.2),
     );
     twice = λ one two three h k. (λ q. h.0 (k.0 q), λ s. k.1 (h.1 s));

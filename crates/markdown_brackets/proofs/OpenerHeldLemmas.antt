@@ -7,9 +7,8 @@ use Rattle.markdown_document.specs.ChainRest.{joined_chains}
 use Rattle.markdown_document.specs.Document.{TreeNode}
 use Rattle.markdown_brackets.specs.DecisionView.{opener_of}
 use Rattle.markdown_brackets.specs.LeftList.{Flag, gone, OpenerState, Entry, done, waits, is_live, trees_onto, Split}
-use Rattle.markdown_brackets.specs.LeftList.{with_entry}
-use Rattle.markdown_brackets.specs.LeftList.{nearest, change_nearest, opens_bracket, opens_wikilink, without_bracket}
-use Rattle.markdown_brackets.specs.LeftList.{without_wikilink, bracket_taken, wikilink_taken}
+use Rattle.markdown_brackets.specs.LeftList.{with_entry, nearest, change_nearest, opens_bracket, opens_wikilink}
+use Rattle.markdown_brackets.specs.LeftList.{without_bracket, without_wikilink, bracket_taken, wikilink_taken}
 use Rattle.markdown_brackets.specs.HeldOpeners.{brackets_of, wikilinks_of, held_as}
 use Rattle.markdown_brackets.proofs.LeftListLemmas.{IsSplitBy, Marked, onto_append, same_change, split_nearest}
 use Rattle.markdown_brackets.specs.Openers.{Waiting}

@@ -1,8 +1,8 @@
 -- A stack of openers as the list that it represents.
 use Rattle.std.proofs.Common.{◌≡◌, ◌⊎◌, inl, inr, ℕ, suc, zero, ◌+◌, ◌-◌, ◌<◌, ◌≤◌, Bool, true, false, ◌&&◌, List, []}
-use Rattle.std.proofs.Common.{◌∷◌, ◌++◌, Some}
-use Rattle.std.proofs.Common.{length, get_or, take, map, min, nat_le, arith, refl, sym, ◌∙◌, ap, reverse}
-use Rattle.std.proofs.lemmas.Bool.{cases_lt}
+use Rattle.std.proofs.Common.{◌∷◌, ◌++◌, Some, length, get_or, take, map, min, nat_le, arith, refl, sym, ◌∙◌, ap}
+use Rattle.std.proofs.Common.{reverse}
+use Rattle.std.proofs.lemmas.Bool.{lt-leb, le-leb, cases_lt}
 use Rattle.std.proofs.lemmas.Bool.Decides.{nat_tests}
 use Rattle.std.proofs.lemmas.List.{reverse-append, map-append, take_more, take_all}
 use Rattle.std.proofs.lemmas.Option.{slice_get-get_or}
@@ -23,12 +23,6 @@ map-reverse f (x ∷ xs) =
     ap (map f) (reverse-append (x ∷ []) xs) ∙ map-append f (reverse xs) (x ∷ [])
     ∙ ap (λ ys. ys ++ f x ∷ []) (map-reverse f xs) ∙ sym (reverse-append (f x ∷ []) (map f xs))
 
-pub le_true : (a b : ℕ) → a ≤ b → nat_le a b ≡ true
-le_true a b h = grind (arith, nat_tests)
-
-pub lt_false : (a b : ℕ) → b < a → nat_le a b ≡ false
-lt_false a b h = grind (arith, nat_tests)
-
 le_suc : (a b : ℕ) → nat_le (suc a) (suc b) ≡ nat_le a b
 le_suc a b = grind (arith, nat_tests)
 
@@ -46,10 +40,10 @@ last_is n openers o = by (nat_le n (length openers))
 marked_last : (n : ℕ) (openers : List Opener) (o : Opener) → marked n (openers ++ o ∷ [])
     ≡ marked n openers ++ last_of n openers o ∷ []
 marked_last zero [] o = refl
-marked_last (suc n) [] o = rw (lt_false (suc n) 0 (omega arith)) refl
+marked_last (suc n) [] o = rw (lt-leb (suc n) 0 (omega arith)) refl
 marked_last zero (x ∷ openers) o =
-    rw (le_true 0 (suc (length openers)) (omega arith))
-    (ap (λ ws. live_opener x ∷ ws) (rw (le_true 0 (length openers) (omega arith)) at (marked_last zero openers o)))
+    rw (le-leb 0 (suc (length openers)) (omega arith))
+    (ap (λ ws. live_opener x ∷ ws) (rw (le-leb 0 (length openers) (omega arith)) at (marked_last zero openers o)))
 marked_last (suc n) (x ∷ openers) o =
     rw (le_suc n (length openers)) (ap (λ ws. disabled_opener (live_opener x) ∷ ws) (marked_last n openers o))
 
@@ -59,7 +53,7 @@ waiting_last n openers o = ap reverse (marked_last n openers o) ∙ reverse-snoc
 
 pub waiting_live : (n : ℕ) (openers : List Opener) (o : Opener) → n ≤ length openers
     → waiting_openers n (openers ++ o ∷ []) ≡ live_opener o ∷ waiting_openers n openers
-waiting_live n openers o h = rw (waiting_last n openers o, le_true n (length openers) h) refl
+waiting_live n openers o h = rw (waiting_last n openers o, le-leb n (length openers) h) refl
 
 -- to disable twice is to disable once
 disabled_twice : (o : Opener) → disabled_opener (disabled_opener (live_opener o)) ≡ disabled_opener (live_opener o)
@@ -97,7 +91,7 @@ pub waiting_image : (openers : List Opener) (o : Opener) → waiting_openers (su
 waiting_image openers o =
     rw (
       waiting_last (suc (length openers)) openers o,
-      lt_false (suc (length openers)) (length openers) (omega arith),
+      lt-leb (suc (length openers)) (length openers) (omega arith),
       waiting_past (suc (length openers)) openers (omega arith),
       and-true o.is_image,
     ) refl
@@ -129,13 +123,13 @@ pub nearest_goes : (node n left : ℕ) (openers : List Opener) (d : Opener) → 
     → node ≤ (get_or openers (left - 1) d).node → before node (waiting_openers n (take left openers))
     ≡ before node (waiting_openers n (take (left - 1) openers))
 nearest_goes node n left openers d some within le =
-    rw (taken_last n left openers d some within, last_is n (take (left - 1) openers) _, le_true node _ le) refl
+    rw (taken_last n left openers d some within, last_is n (take (left - 1) openers) _, le-leb node _ le) refl
 
 pub nearest_stays : (node n left : ℕ) (openers : List Opener) (d : Opener) → 0 < left → left ≤ length openers
     → (get_or openers (left - 1) d).node < node → before node (waiting_openers n (take left openers))
     ≡ waiting_openers n (take left openers)
 nearest_stays node n left openers d some within lt =
-    rw (taken_last n left openers d some within, last_is n (take (left - 1) openers) _, lt_false node _ lt) refl
+    rw (taken_last n left openers d some within, last_is n (take (left - 1) openers) _, lt-leb node _ lt) refl
 
 -- the nearest is the last
 first_last : (n : ℕ) (openers : List Opener) (o : Opener) → first_opener (waiting_openers n (openers ++ o ∷ []))

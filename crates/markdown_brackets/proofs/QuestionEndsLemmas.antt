@@ -1,9 +1,8 @@
 -- A chain asks at most as many questions as it has `]`, and no two end together: a `]` that ends the label of an
 -- earlier one asks about no label itself, and no two labels that follow a `]` end at the same byte offset.
-use Rattle.std.proofs.Common.{◌≡◌, ◌⊎◌, inl, inr, ⊎_elim, ℕ, ◌+◌, ◌-◌, ◌<◌, ◌≤◌, Bool, true, false, not, ◌&&◌}
-use Rattle.std.proofs.Common.{◌==◌, List, [], ◌∷◌, ◌++◌, length, map, Option, cond, refl, sym, ap, subst}
-use Rattle.std.proofs.Common.{◌∙◌, arith, append-nil, drop, get_or, take, nat_eq, length-append, length-drop}
-use Rattle.std.proofs.Common.{length-take, suc}
+use Rattle.std.proofs.Common.{◌≡◌, ◌⊎◌, inl, inr, ⊎_elim, ℕ, ◌+◌, ◌-◌, ◌<◌, ◌≤◌, Bool, true, false, not, ◌&&◌, ◌==◌}
+use Rattle.std.proofs.Common.{List, [], ◌∷◌, ◌++◌, length, map, Option, cond, refl, sym, ap, subst, ◌∙◌, arith}
+use Rattle.std.proofs.Common.{append-nil, drop, get_or, take, nat_eq, length-append, length-drop, length-take, suc}
 use Rattle.std.specs.Prelude.{IfSome, slice_range}
 use Rattle.std.specs.List.{AllByRecursion, IsDistinct, list_any}
 use Rattle.std.proofs.lemmas.Bool.Decides.{nat_tests}
@@ -16,6 +15,8 @@ use Rattle.markdown_base.specs.Questions.{Question}
 use Rattle.markdown_base.specs.WellFormed.{StandsOverMarkup}
 use Rattle.markdown_base.specs.declared.item.ItemBody.{ItemBody}
 use Rattle.markdown_base.specs.declared.item.ItemBody.TheVariants as body
+use Rattle.markdown_base.proofs.ForestLemmas.{All-weaker}
+use Rattle.markdown_base.proofs.ArenaLemmas.{All-snoc}
 use Rattle.markdown_document.specs.ChainRest.{begun_at, cut_shape, end_of, open_body, start_of}
 use Rattle.markdown_document.specs.Document.{Shape, plain, TreeNode}
 use Rattle.markdown_document.specs.Setting.{ReferenceState}
@@ -32,7 +33,7 @@ use Rattle.markdown_brackets.proofs.ReadChainLemmas.{Reads, chain_keeps}
 use Rattle.std.proofs.lemmas.Bool.{or_right}
 
 -- cutting leaves it open what an item opens or closes
-cut_body : (n : ℕ) (shape : Shape) → open_body (cut_shape n shape) ≡ open_body shape
+pub cut_body : (n : ℕ) (shape : Shape) → open_body (cut_shape n shape) ≡ open_body shape
 cut_body n plain = refl
 cut_body n other = refl
 
@@ -128,17 +129,6 @@ module _ {A : Type 0} (w : BracketContext) (others : Reader A) (nothing : AsksNo
 
 -- ---- where they end
 
--- what holds of all, where one thing follows from another
-all_also : {X : Type 0} (P Q : X → Type 0) → ((x : X) → P x → Q x) → (xs : List X) → AllByRecursion P xs
-    → AllByRecursion Q xs
-all_also P Q f [] h = tt
-all_also P Q f (x ∷ xs) h = (f x h.0, all_also P Q f xs h.1)
-
-all_pushed : {X : Type 0} (P : X → Type 0) (xs : List X) (x : X) → AllByRecursion P xs → P x
-    → AllByRecursion P (xs ++ x ∷ [])
-all_pushed P [] x h k = (k, tt)
-all_pushed P (y ∷ xs) x h k = (h.0, all_pushed P xs x h.1 k)
-
 -- a question that ends where none of them does
 none_there : (end : ℕ) (questions : List Question) → AllByRecursion (λ q. (end ≡ q.span.end) → ⊥) questions
     → list_any (nat_eq end) (map (λ q. q.span.end) questions) ≡ false
@@ -179,7 +169,7 @@ ends_later w last later spent spent' q l more (inr k) =
 told_later : (w : BracketContext) (last later : ℕ) (t : Told) → last ≤ later → IsToldTo w last t → IsToldTo w later t
 told_later w last later t l h = record {
   apart = h.apart;
-  each = all_also (EndsBy w last t.spent) (EndsBy w later t.spent)
+  each = All-weaker (EndsBy w last t.spent) (EndsBy w later t.spent)
       (λ q k. ends_later w last later t.spent t.spent q l (λ u. u) k)
       t.asked h.each;
 }
@@ -228,11 +218,11 @@ module _ {A : Type 0} (w : BracketContext) (none : HoldsNoOpener w.skipped) (c :
       subst (λ (asked : List Question). ToldWith asked spent limit) (sym (append-nil asked))
       (record { apart = apart; each = each })
   pushed asked spent limit end (q ∷ []) most apart each elsewhere new =
-      let other = all_also (λ r. (end ≡ r.span.end) → ⊥) (λ r. (q.span.end ≡ r.span.end) → ⊥)
+      let other = All-weaker (λ r. (end ≡ r.span.end) → ⊥) (λ r. (q.span.end ≡ r.span.end) → ⊥)
       (λ r h e. h (sym most ∙ e)) asked elsewhere in
       record {
         apart = apart_pushed asked q apart other;
-        each = all_pushed (EndsBy w here spent) asked q each
+        each = All-snoc (EndsBy w here spent) asked q each
             (new q most);
       }
   pushed asked spent limit end (q ∷ r ∷ more) most apart each elsewhere new = absurd most
@@ -246,9 +236,9 @@ module _ {A : Type 0} (w : BracketContext) (none : HoldsNoOpener w.skipped) (c :
     full_told more k =
         let label = full_label w c k.label k.end k.form in
         rw k.spends (pushed s.asked (k.end ∷ s.spent) t.limit k.end more k.most so.apart
-        (all_also _ _ (λ q. ends_later w here here s.spent (k.end ∷ s.spent) q (omega arith)
+        (All-weaker _ _ (λ q. ends_later w here here s.spent (k.end ∷ s.spent) q (omega arith)
         (or_right (q.span.end == k.end) (among q.span.end s.spent))) s.asked later.each)
-        (all_also _ _ (full_apart s.spent k.end label) s.asked so.each)
+        (All-weaker _ _ (full_apart s.spent k.end label) s.asked so.each)
         (λ q e. inr (record {
           used = among_first q.span.end k.end s.spent e;
           from = here;
@@ -262,7 +252,7 @@ module _ {A : Type 0} (w : BracketContext) (none : HoldsNoOpener w.skipped) (c :
         → ToldWith (s.asked ++ more) t.spent t.limit
     own_told unused more k =
         rw k.keeps (pushed s.asked s.spent t.limit here more k.most so.apart later.each
-        (all_also _ _ (own_apart s.spent (unused k.could)) s.asked so.each) (λ q e. inl (omega (arith, e))))
+        (All-weaker _ _ (own_apart s.spent (unused k.could)) s.asked so.each) (λ q e. inl (omega (arith, e))))
 
     -- about none
     none_told : (more : List Question) → AsksNone w c more s.spent t.spent → ToldWith (s.asked ++ more) t.spent t.limit

@@ -4,8 +4,7 @@ use Rattle.std.specs.Prelude.{if◌then◌else◌}
 use Rattle.std.proofs.lemmas.List.{drop_all}
 use Rattle.markdown_base.specs.declared.item.Item.{Item}
 use Rattle.markdown_brackets.specs.Reference.{collapsed, form_at, form_by_label, is_closing_bracket, is_opener}
-use Rattle.markdown_brackets.specs.Reference.{bracket_label}
-use Rattle.markdown_brackets.specs.Reference.{shortcut, stands_at}
+use Rattle.markdown_brackets.specs.Reference.{bracket_label, shortcut, stands_at}
 use Rattle.markdown_brackets.specs.declared.footnote.FootnoteStyle.{FootnoteStyle}
 
 -- there is no label after the text's end

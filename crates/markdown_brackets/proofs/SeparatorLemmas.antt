@@ -1,10 +1,10 @@
 -- Separators are ASCII: the text may be cut after them.
-use Rattle.std.proofs.Common.{◌≡◌, ℕ, suc, ◌+◌, ◌≤◌, Bool, true, ◌&&◌, ◌==◌, List, [], ◌∷◌, Option, Some, None, IfSome}
-use Rattle.std.proofs.Common.{length, take, drop, cond, arith, refl, subst}
+use Rattle.std.proofs.Common.{◌≡◌, ℕ, suc, ◌+◌, ◌≤◌, true, ◌==◌, List, [], ◌∷◌, Option, Some, None, IfSome, length}
+use Rattle.std.proofs.Common.{take, drop, cond, arith, refl, subst}
 use Rattle.std.specs.List.{list_all, prefix_len}
 use Rattle.std.specs.Char.{is_ascii}
 use Rattle.std.specs.Str.{IsUtf8, IsCharBoundary}
-use Rattle.std.proofs.lemmas.Bool.{cond_both}
+use Rattle.std.proofs.lemmas.Bool.{and_from, cond_both}
 use Rattle.std.proofs.lemmas.Bool.Decides.{nat_tests}
 use Rattle.std.proofs.lemmas.Str.{IsUtf8-drop, IsCharBoundary-from_rest}
 use Rattle.markdown_base.specs.Bytes.{line_feed, carriage_return}
@@ -17,16 +17,13 @@ pub record BeginsAscii (bytes : List ℕ) (n : ℕ) : Type 0 where
   pub within : n ≤ length bytes
   pub ascii : list_all is_ascii (take n bytes) ≡ true
 
-both : (b c : Bool) → b ≡ true → c ≡ true → (b && c) ≡ true
-both b c p q = grind arith
-
 pub nothing_ascii : (bytes : List ℕ) → BeginsAscii bytes 0
 nothing_ascii bytes = record { within = omega arith; ascii = refl }
 
 one_more : (b : ℕ) (bytes : List ℕ) (n : ℕ) → is_ascii b ≡ true → BeginsAscii bytes n → BeginsAscii (b ∷ bytes) (suc n)
 one_more b bytes n e rest = record {
   within = let h = rest.within in omega (arith, h);
-  ascii = both (is_ascii b) (list_all is_ascii (take n bytes)) e rest.ascii;
+  ascii = and_from (is_ascii b) (list_all is_ascii (take n bytes)) e rest.ascii;
 }
 
 -- so are blanks

@@ -4,8 +4,7 @@ use Rattle.std.specs.Prelude.{IfSome, unwrap_or}
 use Rattle.std.specs.Option.{option_and_then, option_map}
 use Rattle.markdown_base.specs.Event.{LinkView}
 use Rattle.markdown_brackets.specs.BracketDecision.{BracketContext, Closing, Written, LinkReference, Progress, a_link}
-use Rattle.markdown_brackets.specs.BracketDecision.{a_text}
-use Rattle.markdown_brackets.specs.BracketDecision.{bracket_found, carried_out, question_at}
+use Rattle.markdown_brackets.specs.BracketDecision.{a_text, bracket_found, carried_out, question_at}
 use Rattle.markdown_brackets.specs.Finish.{IsSplit, SplitsAs}
 use Rattle.markdown_brackets.specs.LeftList.{Entry, OpenerState, Split, change_nearest, nearest}
 use Rattle.markdown_brackets.specs.Lookup.{look_up}

@@ -1,14 +1,15 @@
 -- The title of a tail is a slice of the source where its origin says so.
-use Rattle.std.proofs.Common.{◌≡◌, ℕ, zero, suc, ◌+◌, ◌-◌, ◌≤◌, ◌==◌, Bool, true, false, List, [], ◌∷◌, Option}
-use Rattle.std.proofs.Common.{Some, None}
-use Rattle.std.proofs.Common.{take, drop, slice_range, refl, sym, ◌∙◌, ap, subst, arith, ◌<◌, is_some, nat_lt}
+use Rattle.std.proofs.Common.{◌≡◌, ℕ, zero, suc, ◌+◌, ◌-◌, ◌≤◌, ◌==◌, Bool, true, false, List, [], ◌∷◌, Option, Some}
+use Rattle.std.proofs.Common.{None, take, drop, slice_range, refl, sym, ◌∙◌, ap, subst, arith, ◌<◌, is_some, nat_lt}
 use Rattle.std.proofs.Common.{unwrap_or, min}
 use Rattle.std.specs.Cmp.Lexicographic.{pointwise, same_text}
 use Rattle.std.specs.Option.{option_and_then, option_map}
 use Rattle.std.specs.Prelude.{slice_index, if◌then◌else◌, ⊤, IfSome, nat_eq}
+use Rattle.std.proofs.lemmas.Bool.{ltb-true}
 use Rattle.markdown_base.specs.CowText.{text_of}
 use Rattle.markdown_base.specs.Bytes.{backslash, line_feed}
 use Rattle.markdown_base.specs.declared.tag.LinkType.TheVariants as kind
+use Rattle.markdown_base.proofs.ListLemmas.{take_of_take, drop_of_take}
 use Rattle.markdown_scan.specs.Backslash.{is_bare}
 use Rattle.markdown_scan.specs.Unescape.{unescaped}
 use Rattle.markdown_scan.specs.declared.entity.EntityNames.{EntityNames}
@@ -22,8 +23,7 @@ use Rattle.markdown_brackets.specs.LinkTail.{past_separator}
 use Rattle.markdown_brackets.specs.LinkTailView.{ReadsTail}
 use Rattle.markdown_brackets.specs.WrittenView.{IsTailFrom}
 use Rattle.markdown_brackets.specs.declared.link_tail.LinkTail.{LinkTail}
-use Rattle.markdown_brackets.proofs.ChainAheadLemmas.{is_below}
-use Rattle.markdown_brackets.proofs.TitleLemmas.{after, joined_after}
+use Rattle.markdown_brackets.proofs.TitleLemmas.{slice_empty, after, joined_after}
 
 -- a title from the byte i on ends after it, and where no bytes are skipped and no line is joined is the
 -- bytes up to its closing mark
@@ -69,7 +69,7 @@ is_from starts closer from i escaped (b ∷ bytes) =
         else (i, if is_some line then line_feed else b, is_some line) ∷ joined_lines starts (unwrap_or line (i + 1))
         (i + 1) bytes))
     by line true e skips here = skipped (title_in closer escaped (joined_lines starts from (i + 1) bytes))
-        (is_below i from e) skips
+        (ltb-true i from e) skips
     by line false e skips here = shown line _ _ _ here
 
 -- a title ends after its first byte, and where no line is joined is the bytes between its marks
@@ -107,31 +107,10 @@ sliced_unchanged names in_table written false is =
     by true e is = same_text (unescaped names in_table written) written (sym e)
     by false e is = cc is
 
--- an empty slice
-slice_none : (source : List ℕ) (i : ℕ) → slice_range source i i ≡ []
-slice_none source i = let none : i - i ≡ 0 = omega arith in ap (λ (n : ℕ). take n (drop i source)) none
-
 -- a slice of a text's beginning is a slice of the text
 take_nothing : (n : ℕ) → ◌≡◌ {A = List ℕ} (take n []) []
 take_nothing zero = refl
 take_nothing (suc n) = refl
-
-take_of_take : (n m : ℕ) (bytes : List ℕ) → take n (take m bytes) ≡ take (min n m) bytes
-take_of_take zero m bytes = let none : 0 ≡ min 0 m = omega arith in ap (λ (k : ℕ). take k bytes) none
-take_of_take (suc n) zero bytes = let none : 0 ≡ min (suc n) 0 = omega arith in ap (λ (k : ℕ). take k bytes) none
-take_of_take (suc n) (suc m) [] = sym (take_nothing (min (suc n) (suc m)))
-take_of_take (suc n) (suc m) (b ∷ bytes) =
-    let more : suc (min n m) ≡ min (suc n) (suc m) = omega arith in
-    ap (λ (l : List ℕ). b ∷ l) (take_of_take n m bytes) ∙ ap (λ (k : ℕ). take k (b ∷ bytes)) more
-
-drop_of_take : (n m : ℕ) (bytes : List ℕ) → drop n (take m bytes) ≡ take (m - n) (drop n bytes)
-drop_of_take zero m bytes = let all : m ≡ m - 0 = omega arith in ap (λ (k : ℕ). take k bytes) all
-drop_of_take (suc n) zero bytes =
-    let none : 0 ≡ 0 - suc n = omega arith in ap (λ (k : ℕ). take k (drop (suc n) bytes)) none
-drop_of_take (suc n) (suc m) [] = sym (take_nothing (suc m - suc n))
-drop_of_take (suc n) (suc m) (b ∷ bytes) =
-    let less : m - n ≡ suc m - suc n = omega arith in
-    drop_of_take n m bytes ∙ ap (λ (k : ℕ). take k (drop n bytes)) less
 
 slice_of_take : (source : List ℕ) (end from to : ℕ) → slice_range (take end source) from to
     ≡ slice_range source from (min to end)
@@ -172,7 +151,7 @@ module _ (names : EntityNames) (in_table : Bool) (skipped : List ℕ → Option 
   titled : (next : ℕ) (written : List ℕ) (o : Option Title) → at ≤ next → title_at starts text next ≡ o
       → Titled (after_title skipped text next written o)
   titled next written None later e = closed next written [] false (λ ends unjoined same.
-      ∣ (record { start = next; end = next }, later, omega (arith, ends), same ∙ sym (slice_none source next)) ∣₁)
+      ∣ (record { start = next; end = next }, later, omega (arith, ends), same ∙ sym (slice_empty source next)) ∣₁)
   titled next written (Some t) later e = closed (past_separator skipped text t.ends) written t.text t.is_joined
       (λ ends unjoined same. ∣ (
         record { start = next + 1; end = min (t.ends - 1) block_end },

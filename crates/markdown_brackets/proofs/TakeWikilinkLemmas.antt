@@ -1,6 +1,6 @@
 -- A left list before a `]` in an arena: the openers on the stacks are those of the list, and are where the list says.
-use Rattle.std.proofs.Common.{◌≡◌, ℕ, ◌≤◌, Bool, true, false, List, [], ◌∷◌, Option, Some, None, length, refl}
-use Rattle.std.proofs.Common.{sym, ◌∙◌, ap, subst, arith}
+use Rattle.std.proofs.Common.{◌≡◌, ℕ, ◌≤◌, Bool, true, false, List, [], ◌∷◌, Option, Some, None, length, refl, sym, ◌∙◌}
+use Rattle.std.proofs.Common.{ap, subst, arith}
 use Rattle.std.specs.Prelude.{IfSome, MatchOption, if◌then◌else◌, ⊤}
 use Rattle.markdown_base.specs.Arena.{sibling_of}
 use Rattle.markdown_base.specs.ArenaForest.{links_of}
@@ -8,7 +8,7 @@ use Rattle.markdown_base.specs.BlockTree.{item_at}
 use Rattle.markdown_base.specs.Forest.{Forest, nil, node}
 use Rattle.markdown_base.specs.declared.item.Item.{Item}
 use Rattle.markdown_base.specs.declared.node.Node.{Node}
-use Rattle.markdown_base.proofs.ArenaForestLemmas.{height}
+use Rattle.markdown_base.proofs.ArenaForestLemmas.{forest_at-height, height}
 use Rattle.markdown_document.specs.ChainRest.{start_of, joined_chains, open_body}
 use Rattle.markdown_document.specs.Document.{TreeNode}
 use Rattle.markdown_document.specs.Totals.{same}
@@ -33,7 +33,7 @@ use Rattle.markdown_brackets.specs.declared.closing_bracket.ClosedBracket.{Close
 use Rattle.markdown_brackets.specs.declared.closing_bracket.ClosedBracket.TheVariants.{Wikilinked}
 use Rattle.markdown_brackets.specs.declared.openers.Opener.{Opener}
 use Rattle.markdown_brackets.proofs.AheadOfBracketLemmas.{same_start, same_end, same_closer}
-use Rattle.markdown_brackets.proofs.BracketStandsLemmas.{Found, found_after, found_at, height_found}
+use Rattle.markdown_brackets.proofs.BracketStandsLemmas.{Found, found_after, found_at}
 use Rattle.markdown_brackets.proofs.HeldTreesLemmas.{Holds-from, height-later, total-onto, total-joined}
 use Rattle.markdown_brackets.proofs.OpenerHeldLemmas.{top_bracket, top_wikilink, wikilinks_stay, brackets_stay}
 use Rattle.markdown_brackets.proofs.OpenerHeldLemmas.{trees_stay, splits_at, SplitsAt, onto_joined, Top, for_bracket}
@@ -107,7 +107,7 @@ module _ (nodes : List (Node Item)) (closer : ℕ) (left : List (Entry ℕ)) (c 
 
   -- all trees from a part of the left list on are at most as high as there are nodes
   low : height (numbers_of (trees_onto left after_left)) ≤ length nodes
-  low = subst (λ g. height g ≤ length nodes) s.found (height_found (links_of nodes) s.first)
+  low = subst (λ g. height g ≤ length nodes) s.found (forest_at-height (links_of nodes) s.first)
 
   -- the `]` and the chain after it
   pub closer_found : Found s.source s.tables nodes (Some closer) after_left

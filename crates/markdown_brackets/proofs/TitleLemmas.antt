@@ -6,6 +6,7 @@ use Rattle.std.specs.Option.{option_map}
 use Rattle.std.proofs.Math.Bool.{or-false, or_assoc}
 use Rattle.std.proofs.lemmas.List.{append-nil, drop_all, drop_more, take_more, get_or-drop, length-drop}
 use Rattle.std.proofs.lemmas.Bool.Decides.{nat_tests}
+use Rattle.std.proofs.lemmas.Bool.{lt-ltb, le-ltb}
 use Rattle.markdown_base.specs.CowText.{text_of}
 use Rattle.markdown_base.specs.declared.cow_str.CowStr.{CowStr}
 use Rattle.markdown_base.specs.Bytes.{backslash, carriage_return, close_parenthesis, line_feed, open_parenthesis}
@@ -15,7 +16,6 @@ use Rattle.markdown_scan.specs.declared.entity.EntityNames.{EntityNames}
 use Rattle.markdown_document.specs.LinkTitle.{Title, joined_lines, next_line, title_in, title_origin}
 use Rattle.markdown_document.specs.Origins.{origin_of}
 use Rattle.markdown_brackets.specs.TitleView.{ReadsTitle}
-use Rattle.markdown_brackets.proofs.ChainAheadLemmas.{below_is, not_below_is}
 
 -- the byte that stands for this one
 abbrev shown : Option ℕ → ℕ → ℕ
@@ -52,7 +52,7 @@ joined_after starts from i zero at bytes e h = let same : i
     ≡ at = omega (arith, e) in ap (λ (k : ℕ). joined_lines starts from k bytes) same
 joined_after starts from i (suc n) at [] e h = refl
 joined_after starts from i (suc n) at (b ∷ bytes) e h =
-    rw (below_is i from (omega (arith, e, h))) (joined_after starts from (i + 1) n at bytes (omega (arith, e)) h)
+    rw (lt-ltb i from (omega (arith, e, h))) (joined_after starts from (i + 1) n at bytes (omega (arith, e)) h)
 
 -- what starts later is asked of what ends past the next byte alone
 next_line_same : (starts starts' : ℕ → Option ℕ) (i b : ℕ) → starts (i + 1) ≡ starts' (i + 1)
@@ -88,7 +88,7 @@ module _ {starts : ℕ → Option ℕ} {bytes : List ℕ} {closer : ℕ} {whole 
     now line is =
         let first : joined_lines starts at at (byte ∷ drop (at + 1) bytes) ≡ (at, shown line byte, is_some line)
         ∷ joined_lines starts (unwrap_or line (at + 1)) (at + 1) (drop (at + 1) bytes) = rw
-        (not_below_is at at (omega arith), is) refl in
+        (le-ltb at at (omega arith), is) refl in
         read.rest ∙ ap (title_on so is_joined closer escaped)
         (joined_after starts at 0 at at bytes (omega arith) (omega arith)
         ∙ ap (joined_lines starts at at) (drop_more bytes at 0 here) ∙ first)

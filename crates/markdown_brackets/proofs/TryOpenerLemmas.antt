@@ -14,8 +14,7 @@ use Rattle.markdown_base.specs.declared.node.Node.{Node}
 use Rattle.markdown_document.specs.ChainRest.{as_item, end_of, start_of}
 use Rattle.markdown_document.specs.declared.chain_place.ChainPlace.{ChainPlace}
 use Rattle.markdown_brackets.specs.BracketDecision.{BracketContext, Closing, bracket_found, closer_ends_at, inline_link}
-use Rattle.markdown_brackets.specs.BracketDecision.{lines}
-use Rattle.markdown_brackets.specs.BracketDecision.{past_second, reference_written, start_of_first_past, written}
+use Rattle.markdown_brackets.specs.BracketDecision.{lines, past_second, reference_written, start_of_first_past, written}
 use Rattle.markdown_brackets.specs.FootnoteUse.{footnote_style}
 use Rattle.markdown_brackets.specs.ChainAhead.{reaches_closer, starts_from}
 use Rattle.markdown_brackets.specs.DecisionView.{opener_of}

@@ -6,6 +6,7 @@ use Rattle.std.specs.List.{position_or_len}
 use Rattle.std.specs.Option.{option_and_then, option_map}
 use Rattle.std.proofs.lemmas.List.{get_or-drop, get_or-take, length-take}
 use Rattle.std.proofs.lemmas.List.Sums.{passes_at_first}
+use Rattle.std.proofs.lemmas.Bool.{ltb-true}
 use Rattle.markdown_base.specs.Arena.{sibling_of}
 use Rattle.markdown_base.specs.Bytes.{pipe}
 use Rattle.markdown_base.specs.ArenaForest.{links_of, forest_at}
@@ -25,7 +26,7 @@ use Rattle.markdown_brackets.specs.ChainHeld.{numbers_of, times_of, link_to}
 use Rattle.markdown_brackets.specs.DecisionView.{IsShownAfterPipe, first_shown, shown_of}
 use Rattle.markdown_brackets.specs.Wikilink.{WikilinkBody, Shows, shows_name, shows_nothing, shows_from, cut_at}
 use Rattle.markdown_brackets.specs.Wikilink.{has_pothole, named, shown_from, wikilink_body}
-use Rattle.markdown_base.proofs.ArenaForestLemmas.{height}
+use Rattle.markdown_base.proofs.ArenaForestLemmas.{forest_at-height, height}
 use Rattle.markdown_brackets.specs.LeftList.{Split, inside, is_live}
 use Rattle.markdown_brackets.specs.StandsAt.{FindsWikilink, IsWikilink, IsWikilinkAt, TriesWikilink, wikilink_nodes}
 use Rattle.markdown_brackets.specs.StandsAt.{shown_from_node, shown_in, wikilink_from}
@@ -35,8 +36,7 @@ use Rattle.markdown_brackets.specs.declared.openers.Opener.{Opener}
 use Rattle.markdown_brackets.specs.declared.wikilink_nodes.ShownNodes.{ShownNodes}
 use Rattle.markdown_brackets.specs.declared.wikilink_nodes.ShownNodes.TheVariants.{Over, From}
 use Rattle.markdown_brackets.proofs.AheadOfBracketLemmas.{same_start}
-use Rattle.markdown_brackets.proofs.BracketStandsLemmas.{Found, found_after, found_at, height_found}
-use Rattle.markdown_brackets.proofs.ChainAheadLemmas.{is_below}
+use Rattle.markdown_brackets.proofs.BracketStandsLemmas.{Found, found_after, found_at}
 use Rattle.markdown_brackets.proofs.WikilinkNodesLemmas.{from_is, second_is}
 use Rattle.markdown_brackets.proofs.WikilinkPipeLemmas.{some_in_block}
 
@@ -55,7 +55,7 @@ pipe_found text start size = by (nat_lt n (length part)) refl
         → IfSome {T = ℕ × List ℕ} (option_map (λ n. (start + n + 1, take n part)) (if found then Some n else None))
         (λ p. follows_pipe text p.0 ≡ true)
     by true e =
-        let inside_part : n < length part = is_below n (length part) e in
+        let inside_part : n < length part = ltb-true n (length part) e in
         let is : (get_or part n 0 == pipe) ≡ true = passes_at_first (λ b. b == pipe) part 0 inside_part in
         let cut : n < size = omega (arith, inside_part, length-take size (drop start text)) in
         let byte : get_or part n 0 ≡ slice_index text (start + n) = get_or-take size (drop start text) n 0 cut
@@ -73,7 +73,7 @@ shown_within : (text : List ℕ) (at end : ℕ) → follows_pipe text at ≡ tru
 shown_within text at end piped = by (nat_lt at end) refl
   where
     by : (b : Bool) → nat_lt at end ≡ b → StartsWithin text end (if b then shows_from at else shows_nothing at)
-    by true e = (is_below at end e, piped)
+    by true e = (ltb-true at end e, piped)
     by false e = tt
 
 named_within : (text : List ℕ) (end : ℕ) (name : List ℕ) (shows : Shows) → StartsWithin text end shows
@@ -190,7 +190,7 @@ module _ (source : List ℕ) (tables : Tables) (nodes : List (Node Item)) (w : B
 low_of : (nodes : List (Node Item)) (l : Option ℕ) (f : Forest (TreeNode ℕ)) → forest_at
     (links_of nodes) l ≡ numbers_of f
     → height (numbers_of f) ≤ length nodes
-low_of nodes l f e = subst (λ g. height g ≤ length nodes) e (height_found (links_of nodes) l)
+low_of nodes l f e = subst (λ g. height g ≤ length nodes) e (forest_at-height (links_of nodes) l)
 
 -- the trees past the second of some, in an arena
 module _ (source : List ℕ) (tables : Tables) (nodes : List (Node Item)) (closer : TreeNode ℕ)

@@ -4,10 +4,12 @@ use Rattle.std.proofs.Common.{nat_lt}
 use Rattle.std.specs.Prelude.{if◌then◌else◌}
 use Rattle.std.specs.Option.{option_map}
 use Rattle.std.proofs.lemmas.Bool.Decides.{nat_tests}
+use Rattle.std.proofs.lemmas.Bool.{eqb-true, lt-ltb}
 use Rattle.markdown_base.specs.Arena.{sibling_of}
 use Rattle.markdown_base.specs.Forest.{Forest, nil, node, first_root}
 use Rattle.markdown_base.specs.declared.item.Item.{Item}
 use Rattle.markdown_base.specs.declared.node.Node.{Node}
+use Rattle.markdown_base.proofs.BoolLemmas.{is_itself}
 use Rattle.markdown_document.specs.ChainRest.{end_of, begun_at, joined_chains, past_byte}
 use Rattle.markdown_document.specs.Document.{TreeNode}
 use Rattle.markdown_document.specs.Tables.{Tables}
@@ -19,14 +21,7 @@ use Rattle.markdown_brackets.specs.ChainHeld.{Holds, numbers_of, times_of, link_
 use Rattle.markdown_brackets.specs.WikilinkNodes.{unless_is, body_start}
 use Rattle.markdown_brackets.specs.declared.wikilink_nodes.ShownNodes.TheVariants.{From}
 use Rattle.markdown_brackets.proofs.AheadOfBracketLemmas.{same_end}
-use Rattle.markdown_brackets.proofs.ChainAheadLemmas.{below_is}
 use Rattle.markdown_brackets.specs.StandsAt.{shown_from_node}
-
-is_itself : (n : ℕ) → (n == n) ≡ true
-is_itself n = grind (arith, nat_tests)
-
-equal_by : (n m : ℕ) → (n == m) ≡ true → n ≡ m
-equal_by n m e = grind (arith, nat_tests)
 
 -- a node that does not occur in some trees is not their first
 apart_root : (k : ℕ) (a : TreeNode ℕ) (below after : Forest (TreeNode ℕ)) → times_of k (node a below after) ≡ 0 →
@@ -37,7 +32,7 @@ apart_root k a below after none = by (a.note == k) refl
     by : (b : Bool) → (a.note == k) ≡ b → b ≡ false
     by false e = refl
     by true e =
-        let one : same k a.note ≡ 1 = subst (λ n. same k n ≡ 1) (sym (equal_by a.note k e)) (same-refl k) in
+        let one : same k a.note ≡ 1 = subst (λ n. same k n ≡ 1) (sym (eqb-true a.note k e)) (same-refl k) in
         absurd (omega (arith, one, none))
 
 -- nor the first of those after it
@@ -73,7 +68,7 @@ module _ (source : List ℕ) (tables : Tables) (nodes : List (Node Item)) (close
       → shown_from_node closer.note at (first_root (numbers_past nodes at (numbers_of (Up f))))
       ≡ option_map (λ n. From n at) (link_to (past_byte at f))
   from_is at beyond l nil h none =
-      rw (same_end source tables nodes closer h.2, below_is at (end_of closer) beyond, is_itself closer.note) refl
+      rw (same_end source tables nodes closer h.2, lt-ltb at (end_of closer) beyond, is_itself closer.note) refl
   from_is at beyond l (node a below after) h none =
       rw (same_end source tables nodes a h.2)
       (by (nat_lt at (end_of a)) refl

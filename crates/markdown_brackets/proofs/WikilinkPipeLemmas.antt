@@ -1,7 +1,7 @@
 -- The pipe of a wikilink in a block is that of the whole text, if it is before the block's end.
 use Rattle.std.proofs.Common.{◌≡◌, ℕ, zero, suc, ◌+◌, ◌-◌, ◌<◌, ◌≤◌, ◌⊎◌, inl, inr, Bool, true, false, not, ◌==◌, List}
-use Rattle.std.proofs.Common.{[], ◌∷◌, Option, Some, None, length, take, drop, min, refl, sym, ap, ◌∙◌, arith}
-use Rattle.std.proofs.Common.{cond, nat_lt, nat_le}
+use Rattle.std.proofs.Common.{[], ◌∷◌, Option, Some, None, length, take, drop, min, refl, sym, ap, ◌∙◌, arith, cond}
+use Rattle.std.proofs.Common.{nat_lt, nat_le}
 use Rattle.std.specs.Prelude.{IfSome, if◌then◌else◌}
 use Rattle.std.specs.List.{position_or_len}
 use Rattle.std.specs.Option.{option_map}
@@ -9,6 +9,7 @@ use Rattle.std.proofs.lemmas.Bool.{cases_lt}
 use Rattle.std.proofs.lemmas.Bool.Decides.{nat_tests}
 use Rattle.std.proofs.lemmas.List.{length-take, take-take}
 use Rattle.markdown_scan.specs.WikilinkPipe.{name_before_pipe, wikilink_pipe}
+use Rattle.markdown_base.proofs.ListLemmas.{drop_of_take}
 
 -- what was found, if it ends so early
 abbrev pub ending_by : ℕ → Option (ℕ × List ℕ) → Option (ℕ × List ℕ)
@@ -35,14 +36,6 @@ take_swap zero m xs = sym (take_nothing m)
 take_swap (suc n) zero xs = refl
 take_swap (suc n) (suc m) [] = refl
 take_swap (suc n) (suc m) (x ∷ xs) = ap (λ (ys : List ℕ). x ∷ ys) (take_swap n m xs)
-
-drop_taken : (n m : ℕ) (xs : List ℕ) → drop n (take m xs) ≡ take (m - n) (drop n xs)
-drop_taken zero m xs = let size : m ≡ m - 0 = omega arith in ap (λ k. take k xs) size
-drop_taken (suc n) zero xs = let size : 0 ≡ 0 - suc n = omega arith in ap (λ k. take k (drop (suc n) xs)) size
-drop_taken (suc n) (suc m) [] = sym (take_nothing (suc m - suc n))
-drop_taken (suc n) (suc m) (x ∷ xs) =
-    let size : m - n ≡ suc m - suc n = omega arith in
-    drop_taken n m xs ∙ ap (λ k. take k (drop n xs)) size
 
 -- the first place in a beginning
 place_taken : (p : ℕ → Bool) (m : ℕ) (xs : List ℕ) → position_or_len p (take m xs) ≡ min m (position_or_len p xs)
@@ -131,7 +124,7 @@ pub pipe_in_block : (text : List ℕ) (block_end start size : ℕ)
 pipe_in_block text block_end start size =
     let body : List ℕ = take size (drop start text) in
     let taken : take size (drop start (take block_end text)) ≡ take (block_end - start) body =
-    ap (take size) (drop_taken start block_end text) ∙ take_swap size (block_end - start) (drop start text) in
+    ap (take size) (drop_of_take start block_end text) ∙ take_swap size (block_end - start) (drop start text) in
     ap (name_before_pipe start) taken ∙ name_taken start (block_end - start) body ∙ by body (cases_lt block_end start)
   where
     by : (body : List ℕ) → (block_end < start) ⊎ (start ≤ block_end)

@@ -1,11 +1,13 @@
--- What each call of a builder keeps, by what its caller sees.
-use Rattle.markdown_builder.specs.Shown.{Parts, shown_item, shown_levels, with_block}
-use Rattle.markdown_builder.proofs.ShownStepsLemmas.{closed_shown}
-use Rattle.markdown_builder.proofs.StepLemmas.{added_placed, skipped, after_item, opened, opened_alone}
-use Rattle.markdown_builder.proofs.StepLemmas.{after_opening, more_parts, closed, defined, IsLeft}
-use Rattle.std.specs.Prelude.{slice_index, IfSome}
+-- What each call of a builder keeps, by what its caller sees, and that it keeps what holds of the rows of open tables.
+use Rattle.markdown_builder.specs.Shown.{Parts, shown_item, shown_levels, with_block, Shown, alignments_shown, chain_of}
+use Rattle.markdown_builder.specs.Shown.{run_items, settled_below, shown_trees, tight_shown, unnumbered}
+use Rattle.std.proofs.lemmas.Option.{slice_get_within}
+use Rattle.markdown_builder.proofs.ShownStepsLemmas.{get_of_more, closed_shown, relabelled_followed, trees_shown}
+use Rattle.markdown_builder.proofs.StepLemmas.{added_placed, skipped, after_item, opened, opened_alone, after_opening}
+use Rattle.markdown_builder.proofs.StepLemmas.{more_parts, closed, defined, IsLeft}
+use Rattle.std.specs.Prelude.{slice_index, IfSome, unwrap_or}
 use Rattle.std.proofs.Common.{◌≡◌, ℕ, suc, ◌+◌, ◌-◌, ◌<◌, ◌≤◌, List, [], ◌∷◌, ◌++◌, Some, None, Bool, true, false}
-use Rattle.std.proofs.Common.{length, refl, sym, ap, ◌∙◌, arith, ◌⊎◌, ⊎_elim}
+use Rattle.std.proofs.Common.{length, refl, sym, ap, ◌∙◌, arith, ◌⊎◌, ⊎_elim, zero, cond}
 use Rattle.std.specs.Str.{IsCharBoundary}
 use Rattle.std.proofs.lemmas.Str.{IsCharBoundary-after_ascii}
 use Rattle.markdown_base.specs.declared.block_parts.LinkDef.{LinkDef}
@@ -22,20 +24,25 @@ use Rattle.markdown_base.specs.WellFormed.{PartCounts, source_of, is_delimiter}
 use Rattle.markdown_base.proofs.WellFormedLemmas.{HasMore}
 use Rattle.markdown_builder.specs.declared.open_block.OpenBlock.{OpenBlock}
 use Rattle.markdown_builder.specs.Bodies.{is_leaf, is_plain_block, is_settled, mark_byte}
-use Rattle.markdown_builder.specs.BuilderView.{IsWhite, IsRunOf, follows_run, innermost_block}
+use Rattle.markdown_builder.specs.BuilderView.{IsWhite, IsRunOf, follows_run, innermost_block, with_items}
 use Rattle.markdown_builder.specs.Standing.{State, Standpoint, seen, open_item, with_item, AreOpen, IsSound}
-use Rattle.markdown_builder.specs.TreeLevels.{levels_of}
-use Rattle.markdown_builder.specs.TreeSteps.{TightensList, texts_appended, run_marked}
-use Rattle.markdown_builder.specs.Tightness.{TightInTightLists}
-use Rattle.markdown_builder.proofs.ClosedLevelLemmas.{close_is_laid, write_levels, close_levels}
+use Rattle.markdown_builder.specs.TreeLevels.{levels_of, followed_by, items_changed, roots_changed, tight_body}
+use Rattle.markdown_builder.specs.TreeLevels.{with_trees}
+use Rattle.markdown_builder.specs.TreeSteps.{TightensList, texts_appended, run_marked, byte_text}
+use Rattle.markdown_builder.specs.Tightness.{TightInTightLists, is_tight_list}
+use Rattle.markdown_builder.proofs.LaidLemmas.{close_is_laid, write_levels, close_levels, IsLeftTree, leave_laid}
+use Rattle.markdown_builder.proofs.LaidLemmas.{byte_texts, append_levels, texts_levels}
 use Rattle.markdown_builder.proofs.ClosedListLemmas.{tight_in_tight_lists}
-use Rattle.markdown_builder.proofs.BodiesLemmas.{item_over, MayBePlaced, plain_placed}
-use Rattle.markdown_builder.proofs.BodiesLemmas.{block_facts, settled_facts, plain, one_text_more}
-use Rattle.markdown_builder.proofs.BodiesLemmas.{NamesText, text_placed, mark_facts, one_source}
-use Rattle.markdown_builder.proofs.BodiesLemmas.{two_source, run_source, run_boundary}
-use Rattle.markdown_builder.proofs.LaidLemmas.{IsLeftTree, leave_laid}
+use Rattle.markdown_builder.proofs.NodeWriteLemmas.{item_over, MayBePlaced, plain_placed, block_facts, settled_facts}
+use Rattle.markdown_builder.proofs.NodeWriteLemmas.{plain, one_text_more, NamesText, text_placed, mark_facts}
+use Rattle.markdown_builder.proofs.NodeWriteLemmas.{one_source, two_source, run_source, run_boundary}
 use Rattle.markdown_builder.proofs.WrittenLemmas.{delimiter_ascii, run_sound, TextsStand, texts_stand, list_made_tight}
 use Rattle.markdown_builder.proofs.WrittenLemmas.{changed, begun_later}
+use Rattle.markdown_base.specs.declared.tag.Alignment.{Alignment}
+use Rattle.markdown_base.specs.Forest.{Forest, nil, node, roots}
+use Rattle.markdown_builder.specs.EvenRows.{EachRowContains, HasEvenRows, KeepsRows, is_table_row, is_table}
+use Rattle.markdown_builder.specs.Levels.{IsLaidOut}
+use Rattle.markdown_builder.specs.OpenRows.{KeepOpenRows, KeepsRowsIn}
 
 -- `skip`
 pub skip_keeps : {s : State} (now : Standpoint) (to : ℕ)
@@ -305,3 +312,267 @@ finish_spine {s} now k e closed = none_entered s.tree.nodes s.tree.spine
 pub finish_tight : {s : State} (now : Standpoint)
     → IsSound s → seen s ≡ now → now.blocks ≡ [] → TightInTightLists s.tree.nodes
 finish_tight {s} now k e closed = tight_in_tight_lists s.tree (finish_spine now k e closed) k.lists
+
+-- ---- trees after others
+
+even_followed : (f g : Forest Shown) → HasEvenRows f → HasEvenRows g → HasEvenRows (followed_by f g)
+even_followed nil g e h = h
+even_followed (node a below after) g e h = (e.0, e.1, even_followed after g e.2 h)
+
+contains_followed : (count : ℕ) (f g : Forest Shown)
+    → EachRowContains count f → EachRowContains count g → EachRowContains count (followed_by f g)
+contains_followed count nil g e h = h
+contains_followed count (node a below after) g e h = (e.0, contains_followed count after g e.1 h)
+
+-- among these trees there is no table and no row, and the rows in them are even
+pub record AreApart (trees : Forest Shown) : Type 0 where
+  pub even : HasEvenRows trees
+  pub none : (count : ℕ) → EachRowContains count trees
+
+-- an item that is no table and no row
+one_apart : (a : Shown) → is_table a.item.body ≡ false → is_table_row a.item.body ≡ false → AreApart (node a nil nil)
+one_apart a h1 h2 = grind (arith)
+
+in_followed : (listed : List (List Alignment)) (b : ItemBody) (f g : Forest Shown)
+    → KeepsRowsIn listed b f → AreApart g → KeepsRowsIn listed b (followed_by f g)
+in_followed listed b f g h1 h2 = grind (arith, contains_followed, length)
+
+-- there is a level
+some_level : {X : Type 0} (listed : List (List Alignment)) (around : ItemBody) (blocks : List OpenBlock)
+    → KeepOpenRows listed around blocks [] → X
+some_level listed around [] k = absurd k
+some_level listed around (block ∷ blocks) k = absurd k
+
+-- they are appended
+appended_rows : (listed : List (List Alignment))
+    (around : ItemBody) (blocks : List OpenBlock) (levels : List (Forest Shown)) (trees : Forest Shown) → AreApart trees
+    → KeepOpenRows listed around blocks levels → KeepOpenRows listed around blocks (with_trees levels trees)
+appended_rows listed around [] (level ∷ []) trees apart k =
+    (even_followed level trees k.0 apart.even, in_followed listed around level trees k.1 apart)
+appended_rows listed around (block ∷ blocks) (level ∷ inner ∷ levels) trees apart k =
+    (k.0, k.1, appended_rows listed block.body blocks (inner ∷ levels) trees apart k.2)
+appended_rows listed around (block ∷ blocks) (level ∷ []) trees apart k = some_level listed block.body blocks k.2
+appended_rows listed around blocks levels trees apart k = absurd k
+
+-- ---- more alignments are listed
+
+in_more : (listed more : List (List Alignment)) (b : ItemBody) (trees : Forest Shown)
+    → KeepsRowsIn listed b trees → KeepsRowsIn (listed ++ more) b trees
+in_more listed more b trees h1 = grind (arith, get_of_more, slice_get_within)
+
+pub more_listed_rows : (listed more : List (List Alignment))
+    (around : ItemBody) (blocks : List OpenBlock) (levels : List (Forest Shown))
+    → KeepOpenRows listed around blocks levels → KeepOpenRows (listed ++ more) around blocks levels
+more_listed_rows listed more around [] (level ∷ []) k = (k.0, in_more listed more around level k.1)
+more_listed_rows listed more around (block ∷ blocks) (level ∷ levels) k =
+    (k.0, in_more listed more around level k.1, more_listed_rows listed more block.body blocks levels k.2)
+more_listed_rows listed more around blocks levels k = search (arith)
+
+-- ---- a block is opened
+
+opened_rows : (listed : List (List Alignment)) (around : ItemBody)
+    (blocks : List OpenBlock) (block : OpenBlock) (levels : List (Forest Shown)) → KeepsRowsIn listed block.body nil
+    → KeepOpenRows listed around blocks levels → KeepOpenRows listed around (blocks ++ block ∷ []) (levels ++ nil ∷ [])
+opened_rows listed around [] block (level ∷ []) new k = (k.0, k.1, (tt, new))
+opened_rows listed around (b ∷ blocks) block (level ∷ levels) new k =
+    (k.0, k.1, opened_rows listed b.body blocks block levels new k.2)
+opened_rows listed around blocks block levels new k = search (arith)
+
+-- a block that is no table
+pub in_no_table : (listed : List (List Alignment)) (b : ItemBody) (trees : Forest Shown)
+    → is_table b ≡ false → KeepsRowsIn listed b trees
+in_no_table listed b trees e = grind (arith)
+
+pub plain_no_table : (b : ItemBody) → is_plain_block b ≡ true → is_table b ≡ false
+plain_no_table b h = grind (arith)
+
+-- ---- the innermost open block is replaced
+
+rewritten_rows : (listed : List (List Alignment))
+    (around : ItemBody) (outer : List OpenBlock) (block now : OpenBlock) (levels : List (Forest Shown))
+    → ((trees : Forest Shown) → KeepsRowsIn listed block.body trees → KeepsRowsIn listed now.body trees)
+    → KeepOpenRows listed around (outer ++ block ∷ []) levels → KeepOpenRows listed around (outer ++ now ∷ []) levels
+rewritten_rows listed around [] block now (level ∷ inner ∷ []) h k = (k.0, k.1, (k.2.0, h inner k.2.1))
+rewritten_rows listed around (b ∷ outer) block now (level ∷ levels) h k =
+    (k.0, k.1, rewritten_rows listed b.body outer block now levels h k.2)
+rewritten_rows listed around outer block now levels h k = search (arith)
+
+-- ---- the innermost open block is closed
+
+same_body : (b : ItemBody) → (is_table (tight_body b) ≡ is_table b) × (is_table_row (tight_body b) ≡ is_table_row b)
+same_body b = grind (arith)
+
+same_shown : (b : ItemBody) → (is_table (unnumbered b) ≡ is_table b) × (is_table_row (unnumbered b) ≡ is_table_row b)
+same_shown b = grind (arith)
+
+contains_tight : (count : ℕ) (f : Forest Shown)
+    → EachRowContains count f → EachRowContains count (roots_changed tight_shown f)
+contains_tight count nil e = tt
+contains_tight count (node a below after) e =
+    ((λ h. e.0 (sym (same_body a.item.body).1 ∙ h)), contains_tight count after e.1)
+
+even_tight : (f : Forest Shown) → HasEvenRows f → HasEvenRows (roots_changed tight_shown f)
+even_tight nil e = tt
+even_tight (node a below after) e = ((λ h. e.0 (sym (same_body a.item.body).0 ∙ h)), e.1, even_tight after e.2)
+
+even_items : (f : Forest Shown) → HasEvenRows f → HasEvenRows (items_changed tight_shown f)
+even_items nil e = tt
+even_items (node a below after) e =
+    ((λ h. contains_tight (length a.alignments) below (e.0 h)), even_tight below e.1, even_items after e.2)
+
+roots_items : (f : Forest Shown) → roots (items_changed tight_shown f) ≡ roots f
+roots_items nil = refl
+roots_items (node a below after) = ap (λ (xs : List Shown). a ∷ xs) (roots_items after)
+
+even_chosen : (tight : Bool) (f : Forest Shown)
+    → HasEvenRows f → HasEvenRows (cond tight (items_changed tight_shown f) f)
+even_chosen tight f h1 = grind (arith, even_items)
+
+roots_chosen : (tight : Bool) (f : Forest Shown) → roots (cond tight (items_changed tight_shown f) f) ≡ roots f
+roots_chosen tight f = grind (arith, roots_items)
+
+table_is_no_list : (b : ItemBody) → is_table b ≡ true → is_tight_list b ≡ false
+table_is_no_list b h = grind (arith)
+
+-- what is in a block keeps its rows when it is closed
+kept_below : (a : Shown) (inside : Forest Shown) → KeepsRows a inside → KeepsRows a (settled_below a inside)
+kept_below a inside k h = rw (table_is_no_list a.item.body h) (k h)
+
+-- the item of a block that is closed
+closed_item : (parts : Parts) (item : Item) (trees : Forest Shown)
+    → KeepsRowsIn parts.alignments item.body trees → KeepsRows (shown_item parts item) trees
+closed_item parts item trees h1 = grind (arith, is_table, unnumbered, length, alignments_shown)
+
+-- where the innermost of some blocks is a row directly in a table, it contains as many items as that has alignments
+abbrev pub IsEvenIn : List (List Alignment) → List OpenBlock → List (Forest Shown) → Type 0
+IsEvenIn listed blocks levels = (outer : List OpenBlock) (table row : OpenBlock) (around : List (Forest Shown))
+    (cells : Forest Shown) → blocks ≡ outer ++ table ∷ row ∷ [] → levels ≡ around ++ cells ∷ []
+    → is_table table.body ≡ true → is_table_row row.body ≡ true
+    → length (roots cells) ≡ length (alignments_shown listed table.body)
+
+-- a row among the trees in a table
+in_closed : (listed : List (List Alignment)) (b : ItemBody) (level : Forest Shown) (a : Shown) (below : Forest Shown)
+    → (is_table b ≡ true → is_table_row a.item.body ≡ true → length (roots below) ≡ length (alignments_shown listed b))
+    → KeepsRowsIn listed b level → KeepsRowsIn listed b (followed_by level (node a below nil))
+in_closed listed b level a below h1 h2 = grind (arith, contains_followed, length, unwrap_or)
+
+closed_rows : (parts : Parts) (around : OpenBlock)
+    (any : Forest Shown) (outer : List OpenBlock) (block : OpenBlock) (item : Item) (levels : List (Forest Shown))
+    → item.body ≡ block.body → IsEvenIn parts.alignments (around ∷ outer ++ block ∷ []) (any ∷ levels)
+    → KeepOpenRows parts.alignments around.body (outer ++ block ∷ []) levels
+    → KeepOpenRows parts.alignments around.body outer (with_block levels (shown_item parts item))
+closed_rows parts around any [] block item (level ∷ inside ∷ []) same even k = let a = shown_item parts item in
+    let settled = settled_below a inside in
+    let count : length (roots settled) ≡ length (roots inside) = cc (roots_chosen (is_tight_list a.item.body) inside) in
+    let item_keeps : KeepsRows a inside = closed_item parts item inside (rw same k.2.1) in (
+      even_followed level (node a settled nil) k.0
+          (kept_below a inside item_keeps, even_chosen (is_tight_list a.item.body) inside k.2.0, tt),
+      in_closed parts.alignments around.body level a settled
+          (λ table row. count ∙ even [] around block (any ∷ level ∷ []) inside refl refl table
+          (ap is_table_row (sym same) ∙ (sym (same_shown item.body).1 ∙ row))) k.1,
+    )
+closed_rows parts around any (b ∷ outer) block item (level ∷ inner ∷ deeper ∷ levels) same even k = (
+  k.0,
+  k.1,
+  closed_rows parts b level outer block item (inner ∷ deeper ∷ levels) same
+      (λ before table row rest cells x y. even (around ∷ before) table row (any ∷ rest) cells
+      (ap (λ (bs : List OpenBlock). around ∷ bs) x) (ap (λ (ls : List (Forest Shown)). any ∷ ls) y)) k.2,
+)
+closed_rows parts around any (b ∷ outer) block item (level ∷ []) same even k =
+    some_level parts.alignments b.body (outer ++ block ∷ []) k.2
+closed_rows parts around any (b ∷ []) block item (level ∷ inner ∷ []) same even k = absurd k.2.2
+closed_rows parts around any (b ∷ c ∷ outer) block item (level ∷ inner ∷ []) same even k =
+    some_level parts.alignments c.body (outer ++ block ∷ []) k.2.2
+closed_rows parts around any outer block item levels same even k = search (arith)
+
+-- no block is around the outermost
+abbrev root_block : OpenBlock
+root_block = record { start = 0; body = body.Root }
+
+even_in_root : (listed : List (List Alignment)) (blocks : List OpenBlock) (levels : List (Forest Shown))
+    → IsEvenIn listed blocks levels
+    → KeepOpenRows listed body.Root blocks levels → IsEvenIn listed (root_block ∷ blocks) (nil ∷ levels)
+even_in_root listed blocks levels even k [] table row around cells x y is_t is_r =
+    let e : root_block ≡ table = cc (x) in
+    let root : is_table body.Root ≡ true = ap (λ (b : OpenBlock). is_table b.body) e ∙ is_t in cc (root)
+even_in_root listed blocks [] even k (b ∷ outer) table row around cells x y is_t is_r =
+    some_level listed body.Root blocks k
+even_in_root listed blocks (l ∷ levels) even k (b ∷ outer) table row [] cells x y is_t is_r = cc (y)
+even_in_root listed blocks (l ∷ levels) even k (b ∷ outer) table row (first ∷ around) cells x y is_t is_r =
+    even outer table row around cells (cc (x)) (cc (y)) is_t is_r
+
+-- ---- by what the levels are
+
+-- an item is appended that is no table and no row
+pub item_rows : (listed : List (List Alignment)) (blocks : List OpenBlock) (levels now : List (Forest Shown))
+    (a : Shown) → now ≡ with_items levels (a ∷ []) → (is_table a.item.body ≡ false) × (is_table_row a.item.body ≡ false)
+    → KeepOpenRows listed body.Root blocks levels → KeepOpenRows listed body.Root blocks now
+item_rows listed blocks levels now a e apart k =
+    rw e (appended_rows listed body.Root blocks levels (node a nil nil) (one_apart a apart.0 apart.1) k)
+
+-- the characters of a delimiter run are appended
+apart_run : (stop : ℕ) (opens closes : Bool) (count : ℕ) → AreApart (chain_of (run_items stop opens closes count))
+apart_run stop opens closes zero = record { even = tt; none = λ count. tt }
+apart_run stop opens closes (suc count) = let rest = apart_run stop opens closes count in
+    record { even = ((λ h. cc (h)), tt, rest.even); none = λ many. ((λ h. cc (h)), rest.none many) }
+
+pub run_rows : (listed : List (List Alignment)) (blocks : List OpenBlock) (levels now : List (Forest Shown))
+    (stop : ℕ) (opens closes : Bool) (count : ℕ) → now ≡ with_items levels (run_items stop opens closes count)
+    → KeepOpenRows listed body.Root blocks levels → KeepOpenRows listed body.Root blocks now
+run_rows listed blocks levels now stop opens closes count e k =
+    rw e (appended_rows listed body.Root blocks levels _ (apart_run stop opens closes count) k)
+
+-- some of the Texts of which they are made
+apart_followed : (f g : Forest Shown) → AreApart f → AreApart g → AreApart (followed_by f g)
+apart_followed f g h1 h2 = grind (arith, even_followed, contains_followed)
+
+apart_texts : (parts : Parts) (start count : ℕ) → AreApart (shown_trees parts (byte_texts start count))
+apart_texts parts start zero = record { even = tt; none = λ count. tt }
+apart_texts parts start (suc count) = rw (relabelled_followed
+    (shown_item parts) (byte_texts start count) (node (byte_text (start + count)) nil nil)) (apart_followed _ _
+    (apart_texts parts start count) (one_apart (shown_item parts (byte_text (start + count))) refl refl))
+
+pub texts_rows : (parts : Parts) (blocks : List OpenBlock) (tree : Arena Item) (start count : ℕ)
+    → IsLaidOut tree → KeepOpenRows parts.alignments body.Root blocks (shown_levels parts (levels_of tree))
+    → KeepOpenRows parts.alignments body.Root blocks (shown_levels parts (levels_of (texts_appended tree start count)))
+texts_rows parts blocks tree start count laid k =
+    rw (texts_levels tree start count laid, trees_shown parts (levels_of tree) (byte_texts start count))
+    (appended_rows parts.alignments body.Root blocks _ _ (apart_texts parts start count) k)
+
+-- a block is opened
+pub block_rows : (listed : List (List Alignment)) (blocks : List OpenBlock) (block : OpenBlock)
+    (levels now : List (Forest Shown)) → now ≡ levels ++ nil ∷ [] → KeepsRowsIn listed block.body nil
+    → KeepOpenRows listed body.Root blocks levels → KeepOpenRows listed body.Root (blocks ++ block ∷ []) now
+block_rows listed blocks block levels now e new k = rw e (opened_rows listed body.Root blocks block levels new k)
+
+-- a block is not entered, and an empty paragraph may be there in its place
+pub refused_rows : (parts : Parts) (blocks : List OpenBlock) (tree now : Arena Item) (at : ℕ)
+    → (levels : List (Forest Shown)) → shown_levels parts (levels_of tree) ≡ levels
+    → IsLaidOut tree → (now ≡ tree) ⊎ (now ≡ appended tree (record { start = at; end = at; body = body.Paragraph }))
+    → KeepOpenRows parts.alignments body.Root blocks levels
+    → KeepOpenRows parts.alignments body.Root blocks (shown_levels parts (levels_of now))
+refused_rows parts blocks tree now at levels h1 h2 h3 h4 =
+    grind (arith, append_levels, trees_shown, levels_of, appended_rows, one_apart, shown_item)
+
+-- the innermost open block is replaced
+pub replaced_rows : (listed : List (List Alignment)) (inner block : OpenBlock) (old new : List OpenBlock)
+    (levels : List (Forest Shown)) → Some inner ≡ innermost_block old → IsReplaced old new block
+    → ((trees : Forest Shown) → KeepsRowsIn listed inner.body trees → KeepsRowsIn listed block.body trees)
+    → KeepOpenRows listed body.Root old levels → KeepOpenRows listed body.Root new levels
+replaced_rows listed inner block old new levels last replace h k = let r = ends_with old inner last in
+    rw (replace r.outer inner r.whole) (rewritten_rows listed body.Root r.outer inner block levels h (rw r.whole at k))
+
+-- the innermost open block is closed
+pub block_closed_rows : (parts : Parts) (blocks outer : List OpenBlock)
+    (block : OpenBlock) (item : Item) (levels now : List (Forest Shown)) → blocks ≡ outer ++ block ∷ []
+    → item.body ≡ block.body → IsEvenIn parts.alignments blocks levels → now ≡ with_block levels (shown_item parts item)
+    → KeepOpenRows parts.alignments body.Root blocks levels → KeepOpenRows parts.alignments body.Root outer now
+block_closed_rows parts blocks outer block item levels now whole same even e k = rw e
+    (closed_rows parts root_block nil outer block item levels same
+    (rw whole at (even_in_root parts.alignments blocks levels even k)) (rw whole at k))
+
+-- nothing is open
+pub finished_rows : (listed : List (List Alignment))
+    (blocks : List OpenBlock) (trees : Forest Shown) (levels : List (Forest Shown))
+    → blocks ≡ [] → levels ≡ trees ∷ [] → KeepOpenRows listed body.Root blocks levels → HasEvenRows trees
+finished_rows listed blocks trees levels h1 h2 h3 = grind (arith)

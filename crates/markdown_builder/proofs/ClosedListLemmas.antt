@@ -1,8 +1,9 @@
 -- Paragraphs that are made tight, in a chain and in the items of a list, and tight lists, open and closed: what an
 -- append, a written item and a closed block make of them.
-use Rattle.markdown_builder.proofs.BodiesLemmas.{if_some}
+use Rattle.markdown_builder.proofs.NodeWriteLemmas.{if_some, same_or_not, Writes, same_place, same_item, Grows}
+use Rattle.markdown_builder.proofs.NodeWriteLemmas.{item_beyond}
 use Rattle.std.proofs.Common.{◌≡◌, ℕ, ◌-◌, ◌<◌, ◌≤◌, List, Option, Some, None, Bool, true, false, length, refl, sym, ap}
-use Rattle.std.proofs.Common.{◌∙◌, arith, ◌⊎◌, inl, inr, ⊎_elim, zero, suc, [], ◌∷◌, ◌++◌}
+use Rattle.std.proofs.Common.{◌∙◌, arith, ◌⊎◌, inl, inr, ⊎_elim, suc, [], ◌∷◌, ◌++◌}
 use Rattle.std.specs.Prelude.{IfSome}
 use Rattle.markdown_base.specs.declared.item.Item.{Item}
 use Rattle.markdown_base.specs.declared.item.ItemBody.{ItemBody}
@@ -16,7 +17,6 @@ use Rattle.markdown_builder.specs.Tightness.{is_tight_list, IsInChain, first_of,
 use Rattle.markdown_builder.specs.Tightness.{TightInTightLists}
 use Rattle.markdown_builder.specs.TreeSteps.{Tightened, MadeTight, MakesTight, is_paragraph, tight, Tightens}
 use Rattle.markdown_builder.specs.TreeSteps.{none_tight, one_tight, TightensList}
-use Rattle.markdown_builder.proofs.NodeWriteLemmas.{same_or_not, Writes, same_place, same_item, Grows, item_beyond}
 use Rattle.std.specs.List.{AllByRecursion}
 use Rattle.std.proofs.lemmas.Bool.{cases_lt}
 use Rattle.markdown_base.specs.ArenaChanges.{innermost}
@@ -38,29 +38,12 @@ paragraph_or_tight b e f = let q : body.Paragraph ≡ body.TightParagraph = sym 
 -- some more of them are made tight, by which fewer are left
 pub made_more : (S Left D Fewer : ℕ → Type 0) (a b c : List (Node Item)) → MadeTight S Left a b
     → MadeTight D (λ p. ⊥) b c → ((p : ℕ) → D p → S p) → ((p : ℕ) → Left p → D p ⊎ Fewer p) → MadeTight S Fewer a c
-made_more S Left D Fewer a b c m n within covers = record {
-  size = n.size ∙ m.size;
-  links = λ d i. n.links d i ∙ m.links d i;
-  made = search (arith, inr, inl, still, n.made, n.kept, m.made);
-  kept = λ p. ⊎_elim (λ (e : item_at c p ≡ item_at b p). ⊎_elim (λ (f : item_at b p ≡ item_at a p). inl (e ∙ f))
-      (λ (t : Tightened S a b p). inr (record { inside = t.inside; was = t.was; now = e ∙ t.now })) (m.kept p))
-      (λ (t : Tightened D b c p). ⊎_elim (λ (f : item_at b p ≡ item_at a p). inr (record {
-        inside = within p t.inside;
-        was = ap (λ (y : Item). y.body) (sym f) ∙ t.was;
-        now = t.now ∙ ap tight f;
-      })) (λ (u : Tightened S a b p). cc) (m.kept p)) (n.kept p);
-}
-  where
-    still : (p : ℕ) → ((item_at b p).body ≡ body.Paragraph → ⊥)
-        → (item_at c p ≡ item_at b p) ⊎ Tightened D b c p → (item_at c p).body ≡ body.Paragraph → ⊥
-    still p q k e = ⊎_elim (λ (f : item_at c p ≡ item_at b p). q (ap (λ (y : Item). y.body) (sym f) ∙ e))
-        (λ (t : Tightened D b c p). q t.was) k
+made_more S Left D Fewer a b c h1 h2 h3 h4 = grind (arith, item_at, tight)
 
 -- ---- one paragraph
 
 pub is_a_paragraph : (b : ItemBody) → is_paragraph b ≡ true → b ≡ body.Paragraph
-is_a_paragraph body.Paragraph h = refl
-is_a_paragraph other h = cc (h)
+is_a_paragraph b h = grind (arith)
 
 no_paragraph : (b : ItemBody) → is_paragraph b ≡ false → b ≡ body.Paragraph → ⊥
 no_paragraph b h e = let p : is_paragraph b ≡ true = ap is_paragraph e in cc (h, p)
@@ -88,14 +71,12 @@ chain_same old new h l p (later_in q _ c) = later_in q p (rw (h false q) (chain_
 -- what stands in a chain is its first number, or stands after that
 pub first_or_later : (nodes : List (Node Item)) (q p : ℕ)
     → IsInChain nodes (Some q) p → (p ≡ q) ⊎ IsInChain nodes (sibling_of nodes q) p
-first_or_later nodes q p (first_of _) = inl refl
-first_or_later nodes q p (later_in _ _ c) = inr c
+first_or_later nodes q p h1 = grind (arith, first_of, later_in)
 
 -- a chain begins with a number
 pub nothing_in : (nodes : List (Node Item)) (l : Option ℕ) (p : ℕ)
     → ((number : ℕ) → l ≡ Some number → ⊥) → IsInChain nodes l p → ⊥
-nothing_in nodes l p none (first_of _) = none p refl
-nothing_in nodes l p none (later_in q _ c) = none q refl
+nothing_in nodes l p h1 h2 = grind (arith, first_of, later_in)
 
 -- the same for what stands in the items of a list
 pub item_same : (old new : List (Node Item))
@@ -144,9 +125,7 @@ pub sibling_made : (nodes old new : List (Node Item)) (first : Option ℕ) (numb
     → MadeTight (λ p. p ≡ number) (λ p. ⊥) old new
     → ((p : ℕ) → IsInChain nodes (Some number) p → IsInChain nodes first p)
     → MadeTight (λ p. IsInChain nodes first p) (λ p. IsInChain nodes (sibling_of nodes number) p) nodes new
-sibling_made nodes old new first number m n within = made_more (λ p. IsInChain nodes first p) (λ p. IsInChain nodes
-    (Some number) p) (λ p. p ≡ number) (λ p. IsInChain nodes (sibling_of nodes number) p) nodes old new m n
-    (λ p e. within p (rw e (first_of number))) (λ p c. first_or_later nodes number p c)
+sibling_made nodes old new first number h1 h2 h3 = grind (arith, made_more, sibling_of, first_of, first_or_later)
 
 -- the same for one of the items
 pub item_made : (nodes old new : List (Node Item)) (list number : ℕ)
@@ -257,8 +236,7 @@ next_after nodes r d i low h = if_some (link_of (links_of nodes) d i) (λ j. low
 
 -- a tight paragraph, by its body
 is_tight : (b : ItemBody) → is_tight_paragraph b ≡ true → b ≡ body.TightParagraph
-is_tight body.TightParagraph h = refl
-is_tight other h = cc (h)
+is_tight b h = grind (arith)
 
 -- a test has one outcome
 pub not_both : {b : Bool} → b ≡ true → b ≡ false → ⊥
@@ -316,8 +294,7 @@ innermost_has P here (s ∷ t ∷ spine) a = innermost_has P here (t ∷ spine) 
 place_outside : (nodes : List (Node Item)) (spine : List ℕ) (cursor : Option ℕ) (list : ℕ)
     → 0 < list → (c : IsClosed nodes spine cursor list) → (d : Bool) (i : ℕ)
     → list ≤ i → i < c.end → (d ≡ false → list < i) → (d ≡ place_down cursor) × (i ≡ place_at spine cursor) → ⊥
-place_outside nodes spine None list positive c d i low high after e = search (arith, innermost, innermost_has, inl, e.1)
-place_outside nodes spine (Some before) list positive c d i low high after e = search (arith, e.1, e.0)
+place_outside nodes spine cursor list h1 c d i h2 h3 h4 h5 = grind (arith, innermost, innermost_has)
 
 -- ---- an append
 
@@ -397,8 +374,7 @@ tight_within nodes list t = search (arith, not_both, item_beyond, cases_lt)
 -- nor does the root
 tight_positive : (nodes : List (Node Item)) (list : ℕ)
     → (item_at nodes 0).body ≡ body.Root → is_tight_list (item_at nodes list).body ≡ true → 0 < list
-tight_positive nodes zero root t = absurd (not_both t (rw root))
-tight_positive nodes (suc list) root t = omega arith
+tight_positive nodes list h1 h2 = grind (arith, not_both)
 
 -- the numbers that were closed stay so where the new node is the only one that may be open or in focus now
 record OpensOnly (n : ℕ) (few many : List ℕ) (cursor : Option ℕ) : Type 0 where
@@ -544,11 +520,8 @@ lists_written old new spine cursor at x r w k loose plain = record {
 pub open_is_loose : (nodes : List (Node Item)) (spine : List ℕ) (cursor : Option ℕ) (n : ℕ)
     → AreRising (links_of nodes) → ListsAreTight (record { nodes = nodes; spine = spine; cursor = cursor })
     → (IsNotOpen spine n → ⊥) → is_tight_paragraph (item_at nodes n).body ≡ false
-open_is_loose nodes spine cursor n r k entered = of_test (is_tight_paragraph (item_at nodes n).body) refl
-  where
-    of_test : (b : Bool) → is_tight_paragraph (item_at nodes n).body ≡ b → b ≡ false
-    of_test false e = refl
-    of_test true e = search (arith, is_tight, inside_after, not_open_inside, k.only, k.lists)
+open_is_loose nodes spine cursor n h1 h2 h3 =
+    grind (arith, is_tight_paragraph, item_at, is_tight, inside_after, not_open_inside)
 
 -- ---- a block is closed
 
@@ -661,7 +634,4 @@ lists_closed old new n r low below at k t = of_test (is_tight_list (item_at old.
 
 -- where no block is open, the paragraphs of tight lists are tight, and no others
 pub tight_in_tight_lists : (tree : Arena Item) → tree.spine ≡ [] → ListsAreTight tree → TightInTightLists tree.nodes
-tight_in_tight_lists tree none k = record {
-  all = λ p t q. (k.lists t.list t.tight (rw none tt)).tight p t.inside q;
-  only = λ p q. let w = k.only p q in record { list = w.list; tight = w.tight; inside = w.inside };
-}
+tight_in_tight_lists tree h1 h2 = grind (arith, tight)

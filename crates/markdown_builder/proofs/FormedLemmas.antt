@@ -1,6 +1,6 @@
 -- Rising links spell a forest and reach each number once, so what a builder keeps at each number and link is true of
 -- the tree: it is well formed, its headings hold inline items alone, and it covers the text.
-use Rattle.markdown_builder.proofs.BodiesLemmas.{if_some}
+use Rattle.markdown_builder.proofs.NodeWriteLemmas.{if_some, not_open, inline_loose, tight_leaf}
 use Rattle.std.proofs.Common.{◌≡◌, ℕ, zero, suc, ◌+◌, ◌<◌, ◌≤◌, List, [], ◌∷◌, ◌++◌, Option, Some, None, Bool, true}
 use Rattle.std.proofs.Common.{false, length, refl, ◌∙◌, arith, ◌⊎◌, inl, inr, ⊎_elim, map, sym, ap}
 use Rattle.std.specs.Prelude.{IfSome, nat_eq, IsTrue, ◌||◌, ◌&&◌}
@@ -20,13 +20,12 @@ use Rattle.markdown_base.specs.declared.item.ItemBody.{ItemBody}
 use Rattle.markdown_base.specs.ArenaRules.{next_at}
 use Rattle.markdown_base.specs.BlockTree.{Numbered, item_at, numbered, tree_of}
 use Rattle.markdown_base.specs.Item.{is_open, is_inline, is_childless, is_tight_paragraph, range_of, is_block}
-use Rattle.markdown_base.proofs.ForestLemmas.{Throughout-relabelled, preorder-relabelled}
+use Rattle.markdown_base.proofs.ForestLemmas.{All-append, Throughout-relabelled, preorder-relabelled}
 use Rattle.markdown_builder.specs.Bodies.{is_leaf}
 use Rattle.markdown_builder.specs.BuilderRules.{StandsUnder, StandsAfter, KeepsNodes, KeepsRuns}
-use Rattle.markdown_builder.proofs.BodiesLemmas.{not_open, inline_loose, tight_leaf}
-use Rattle.markdown_base.specs.declared.item.ItemBody.TheVariants as body
 use Rattle.markdown_builder.specs.HeadingsHoldInline.{is_heading_block, HeadingsHoldInline}
 use Rattle.markdown_base.specs.Coverage.{is_inside, is_in_block, Covers}
+use Rattle.markdown_base.proofs.WellFormedLemmas.{inline_childless}
 use Rattle.markdown_builder.specs.Standing.{State, Standpoint, seen, IsUnderTop, is_in_definition, Stands}
 use Rattle.markdown_builder.proofs.StepLemmas.{either_passes}
 
@@ -73,24 +72,19 @@ abbrev pub IsIn : ℕ → Forest ℕ → Type 0
 IsIn j nil = ⊥
 IsIn j (node i below after) = (j ≡ i) ⊎ (IsIn j below ⊎ IsIn j after)
 
--- what holds of two lists holds of both
-both_lists : (P : ℕ → Type 0) (xs ys : List ℕ) → AllByRecursion P xs → AllByRecursion P ys → AllByRecursion P (xs ++ ys)
-both_lists P [] ys a b = b
-both_lists P (x ∷ xs) ys a b = (a.0, both_lists P xs ys a.1 b)
-
 -- what holds of all that stand in a forest holds of its list
 all_in : (P : ℕ → Type 0) (f : Forest ℕ) → ((j : ℕ) → IsIn j f → P j) → AllByRecursion P (preorder f)
 all_in P nil h = tt
 all_in P (node i below after) h = let first = all_in P below (λ j s. h j (inr (inl s))) in
     let second = all_in P after (λ j s. h j (inr (inr s))) in
-    search (arith, inl, both_lists, preorder, inr, first, second)
+    search (arith, inl, All-append, preorder, inr, first, second)
 
 -- two lists of distinct numbers that share none are distinct when joined
 distinct_both : (xs ys : List ℕ) → IsDistinct nat_eq xs → IsDistinct nat_eq ys
     → AllByRecursion (λ x. AllByRecursion (λ y. nat_eq x y ≡ false) ys) xs → IsDistinct nat_eq (xs ++ ys)
 unfolding IsDistinct
 distinct_both [] ys d e c = e
-distinct_both (x ∷ xs) ys d e c = (both_lists (λ y. nat_eq x y ≡ false) xs ys d.0 c.0, distinct_both xs ys d.1 e c.1)
+distinct_both (x ∷ xs) ys d e c = (All-append (λ y. nat_eq x y ≡ false) xs ys d.0 c.0, distinct_both xs ys d.1 e c.1)
 
 -- all that is spelled is larger than what bounds the link
 pub larger : (k : Links) (l : Option ℕ) (f : Forest ℕ) (low j : ℕ)
@@ -195,7 +189,7 @@ rising_distinct k l (node n below after) r s = (
 )
   where
     after_node : AllByRecursion (λ y. nat_eq n y ≡ false) (preorder below ++ preorder after)
-    after_node = both_lists (λ y. nat_eq n y ≡ false)
+    after_node = All-append (λ y. nat_eq n y ≡ false)
         (preorder below) (preorder after) (all_in (λ y. nat_eq n y ≡ false) below
         (λ y i. apart n y (larger k (k.child n) below n y r s.2 (leads k r true n) i))) (all_in
         (λ y. nat_eq n y ≡ false) after (λ y i. apart n y (larger k (k.next n) after n y r s.3 (leads k r false n) i)))
@@ -431,13 +425,7 @@ keeps_formed text nodes parts k runs =
 
 -- a heading is a leaf
 heading_leaf : (b : ItemBody) → IsTrue (is_heading_block b) → is_leaf b ≡ true
-heading_leaf (body.Heading level attributes) h = refl
-heading_leaf other h = cc (h)
-
--- an inline item has no children
-inline_childless : (b : ItemBody) → is_inline b ≡ true → IsTrue (is_childless b)
-inline_childless body.Rule h = cc (h)
-inline_childless other h = h
+heading_leaf b h = grind (arith)
 
 -- each item of a forest is inline
 abbrev EachInline : Forest Numbered → Type 0

@@ -1,12 +1,9 @@
-pub mod BodiesLemmas
 pub mod NodeWriteLemmas
 pub mod LaidLemmas
-pub mod ClosedLevelLemmas
 pub mod StepLemmas
 pub mod ClosedListLemmas
 pub mod WrittenLemmas
 pub mod FormedLemmas
 pub mod CallLemmas
 pub mod ShownStepsLemmas
-pub mod OpenRowsLemmas
 pub mod RowInsideLemmas

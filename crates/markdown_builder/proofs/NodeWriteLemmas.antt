@@ -1,29 +1,234 @@
--- What an append and a written item make of a list of nodes, number by number, and that the rules at each number and
--- link and that of delimiter runs are kept.
-use Rattle.std.proofs.Common.{◌≡◌, ℕ, zero, suc, ◌+◌, ◌<◌, ◌≤◌, List, [], ◌∷◌, ◌++◌, Option, Some, None, Bool, true}
-use Rattle.std.proofs.Common.{false, map, length, refl, ap, ◌∙◌, arith, sym, ◌⊎◌, inl, inr, ⊎_elim}
-use Rattle.std.specs.Prelude.{slice_index_or, IfSome}
-use Rattle.std.proofs.lemmas.List.{length-append}
+-- What the rules require of a body by itself, for the bodies that a builder places, and the markup of open items; what
+-- an append and a written item make of a list of nodes, number by number, and that the rules at each number and link
+-- and that of delimiter runs are kept.
+use Rattle.std.proofs.Common.{◌≡◌, ℕ, ◌+◌, ◌≤◌, List, Option, Some, None, true, false, refl, arith, zero, suc, ◌-◌, ◌<◌}
+use Rattle.std.proofs.Common.{[], ◌∷◌, Bool, cond, length, get_or, take, drop, replicate, ap, ◌∙◌, ◌++◌, map, sym, ◌⊎◌}
+use Rattle.std.proofs.Common.{⊎_elim}
+use Rattle.markdown_builder.specs.EvenRows.{is_table, is_table_row}
+use Rattle.markdown_builder.specs.Shown.{Parts, plain_item, shown_item}
+use Rattle.std.specs.Prelude.{IfSome, Bool, ◌==◌, ◌||◌, slice_index, slice_range, slice_index_or}
+use Rattle.markdown_base.specs.declared.index.AlignmentIndex.{AlignmentIndex}
+use Rattle.markdown_base.specs.declared.index.HeadingIndex.{HeadingIndex}
 use Rattle.markdown_base.specs.declared.item.Item.{Item}
+use Rattle.markdown_base.specs.declared.item.ItemBody.{ItemBody}
+use Rattle.markdown_base.specs.declared.item.ItemBody.TheVariants as body
+use Rattle.markdown_base.specs.declared.tag.HeadingLevel.{HeadingLevel}
+use Rattle.markdown_base.specs.BlockTree.{Numbered, item_at, no_item, numbered}
+use Rattle.markdown_base.specs.Forest.{nil, node}
+use Rattle.markdown_base.specs.Item.{LiesIn, is_open, is_inline, is_childless, is_resolved, is_tight_paragraph}
+use Rattle.markdown_base.specs.Item.{is_unplaced, text_named, alignments_named, attributes_named}
+use Rattle.markdown_base.specs.WellFormed.{BlocksAreSettled, ChainsAreKept, MarkupIsThere, StandsOverMarkup}
+use Rattle.markdown_base.specs.WellFormed.{run_character, PartCounts, PartsAreNamed, RunCharacter, EndsRun, RunGoesOn}
+use Rattle.markdown_base.specs.WellFormed.{StandsInRun, RunsAreWhole}
+use Rattle.markdown_base.proofs.WellFormedLemmas.{HasMore, named_more}
+use Rattle.markdown_builder.specs.Bodies.{is_leaf, is_plain_block, is_settled, mark_byte}
+use Rattle.markdown_builder.specs.BuilderRules.{ItemFits, NamesNew, MayReplace, LinkFits, KeepsNodes, KeepsRuns}
+use Rattle.std.specs.Str.{IsCharBoundary, IsUtf8}
+use Rattle.std.proofs.Math.Seq.{drop-cons}
+use Rattle.std.proofs.lemmas.Bool.Decides.{nat_tests}
+use Rattle.std.proofs.lemmas.Str.{IsCharBoundary-after_ascii}
+use Rattle.markdown_builder.specs.BuilderView.{IsRunOf}
+use Rattle.std.proofs.lemmas.List.{length-append}
 use Rattle.markdown_base.specs.declared.node.Node.{Node}
 use Rattle.markdown_base.specs.Arena.{Arena, sibling_of}
 use Rattle.markdown_base.specs.ArenaChanges.{innermost, changed_at, follower, led_to, appended}
 use Rattle.markdown_base.specs.ArenaForest.{links_of}
-use Rattle.markdown_base.specs.BlockTree.{item_at, no_item, Numbered, numbered}
 use Rattle.markdown_base.proofs.ArenaLemmas.{length-changed_at, length-led_to}
 use Rattle.markdown_builder.specs.Rising.{link_of, place_down, place_at, AreRising}
 use Rattle.markdown_builder.specs.Standing.{with_item}
 use Rattle.std.proofs.lemmas.Bool.{cases_lt}
-use Rattle.markdown_base.specs.declared.item.ItemBody.{ItemBody}
-use Rattle.markdown_base.specs.declared.item.ItemBody.TheVariants as body
-use Rattle.markdown_base.specs.Item.{is_inline, text_named, alignments_named}
-use Rattle.markdown_base.specs.WellFormed.{PartCounts, RunCharacter, run_character, EndsRun, RunGoesOn, StandsInRun}
-use Rattle.markdown_base.specs.WellFormed.{RunsAreWhole}
-use Rattle.markdown_base.proofs.WellFormedLemmas.{HasMore, named_more}
-use Rattle.markdown_builder.specs.BuilderRules.{NamesNew, MayReplace, ItemFits, LinkFits, KeepsNodes, KeepsRuns}
-use Rattle.markdown_builder.proofs.BodiesLemmas.{chain_of_one, parent_of_one}
 use Rattle.std.specs.Option.{option_map}
 use Rattle.markdown_base.specs.ArenaRules.{next_at}
+
+-- a body that refers to nothing
+pub record IsPlain (b : ItemBody) : Type 0 where
+  pub unresolved : is_resolved b ≡ false
+  pub no_run : run_character b ≡ None
+  pub placed : is_unplaced b ≡ false
+  pub texts : text_named b ≡ None
+  pub alignments : alignments_named b ≡ None
+  pub attributes : attributes_named b ≡ None
+  pub loose : is_tight_paragraph b ≡ false
+
+pub plain : {b : ItemBody}
+    → is_resolved b ≡ false → run_character b ≡ None → is_unplaced b ≡ false → text_named b ≡ None
+    → alignments_named b ≡ None → attributes_named b ≡ None → is_tight_paragraph b ≡ false → IsPlain b
+plain unresolved no_run placed texts alignments attributes loose = search (arith)
+
+-- blocks that are opened as they are are plain, and may have children
+pub block_facts : (b : ItemBody) → is_plain_block b ≡ true → IsPlain b × (is_childless b ≡ false)
+block_facts b h = grind (arith)
+
+-- what may have children is not inline
+pub parent_not_inline : (b : ItemBody) → is_childless b ≡ false → is_inline b ≡ false
+parent_not_inline b h = grind (arith)
+
+-- a body of an inline item that stands over this markup, refers to nothing, and is no table and no row
+pub record StandsOver (b : ItemBody) (source : List ℕ) : Type 0 where
+  pub plain : IsPlain b
+  pub inline : is_inline b ≡ true
+  pub apart : (is_table b ≡ false) × (is_table_row b ≡ false)
+  pub shown : (parts : Parts) (start end : ℕ)
+      → shown_item parts (record { start = start; end = end; body = b }) ≡ plain_item start end b
+  pub markup : StandsOverMarkup source b
+
+-- settled inline items require no markup
+pub settled_facts : (b : ItemBody) (source : List ℕ) → is_settled b ≡ true → StandsOver b source
+settled_facts b source h = grind (arith)
+
+-- a block is not open
+pub not_open : (b : ItemBody) → is_inline b ≡ false → is_open b ≡ false
+not_open b h = grind (arith)
+
+-- one item below another is a chain that is kept just where the one above may have children
+pub chain_of_one : (above : ItemBody) (b : Numbered) → is_childless above ≡ false → ChainsAreKept above (node b nil nil)
+chain_of_one above b parent = search (arith, is_open, false, is_inline, true)
+
+pub parent_of_one : (above : ItemBody) (b : Numbered)
+    → ChainsAreKept above (node b nil nil) → is_childless above ≡ false
+parent_of_one above b h1 = grind (arith, is_childless)
+
+-- a block is not a character of a run
+pub block_no_run : (b : ItemBody) → is_inline b ≡ false → run_character b ≡ None
+block_no_run b h = grind (arith)
+
+-- a block requires no markup
+pub block_markup : (b : ItemBody) (source : List ℕ) → is_inline b ≡ false → StandsOverMarkup source b
+block_markup b source h = grind (arith)
+
+-- an inline item is no tight paragraph
+pub inline_loose : (b : ItemBody) → is_inline b ≡ true → is_tight_paragraph b ≡ false
+inline_loose b h = grind (arith)
+
+-- a tight paragraph is a leaf
+pub tight_leaf : (b : ItemBody) → is_tight_paragraph b ≡ true → is_leaf b ≡ true
+tight_leaf b h = grind (arith)
+
+-- what holds of each value that an option may have
+pub if_some : {A : Type 0} (o : Option A) (P : A → Type 0) → ((a : A) → o ≡ Some a → P a) → IfSome o P
+if_some o P h1 = grind (arith)
+
+-- anything is true of the number that a body refers to where there is none
+pub no_name : {A : Type 0} (o : Option A) (P : A → Type 0) → o ≡ None → IfSome o P
+no_name o P e = rw e tt
+
+-- an item over a range
+abbrev pub item_over : ℕ → ℕ → ItemBody → Item
+item_over start end b = record { start = start; end = end; body = b }
+
+-- a body may be placed, over its markup, where some parts were there before, and more are there now
+pub record MayBePlaced (few many : PartCounts) (b : ItemBody) : Type 0 where
+  pub more : HasMore few many
+  pub unresolved : is_resolved b ≡ false
+  pub no_run : run_character b ≡ None
+  pub placed : is_unplaced b ≡ false
+  pub named : PartsAreNamed many b
+  pub texts : IfSome (text_named b) (λ ix. few.texts ≤ ix)
+  pub alignments : IfSome (alignments_named b) (λ ix. few.alignments ≤ ix)
+  pub loose : is_tight_paragraph b ≡ false
+
+-- no parts are lost
+pub same_parts : (counts : PartCounts) → HasMore counts counts
+same_parts counts = record { texts = omega arith; alignments = omega arith; attributes = omega arith }
+
+-- a plain body
+pub plain_placed : (counts : PartCounts) (b : ItemBody) → IsPlain b → MayBePlaced counts counts b
+plain_placed counts b p = search (arith, same_parts, no_name)
+
+-- a block with nothing below it is settled where it may occur in the tree
+pub settled_alone : (b : ItemBody) → is_unplaced b ≡ false → BlocksAreSettled b nil
+settled_alone b placed = record { placed = placed; tight = λ t. refl }
+
+-- a body that may be placed fits wherever its item lies in the text, over its markup
+pub placed_fits : (text : List ℕ) (few many : PartCounts) (start end : ℕ) (b : ItemBody)
+    → MayBePlaced few many b → MarkupIsThere text (item_over start end b)
+    → LiesIn text (item_over start end b) → ItemFits text many (item_over start end b)
+placed_fits text few many start end b p markup range = search (arith, settled_alone)
+
+-- a body that may be placed refers to what is new
+pub placed_new : (few many : PartCounts) (start end : ℕ) (b : ItemBody)
+    → MayBePlaced few many b → NamesNew few (item_over start end b)
+placed_new few many start end b p = record { texts = p.texts; alignments = p.alignments }
+
+-- the parts with one text more
+abbrev pub one_text_more : PartCounts → PartCounts → Type 0
+one_text_more few many = (many.texts ≡ few.texts + 1) × (many.alignments ≡ few.alignments)
+    × (many.attributes ≡ few.attributes)
+
+-- a body that names the text of a number, and nothing else
+pub record NamesText (b : ItemBody) (ix : ℕ) : Type 0 where
+  pub unresolved : is_resolved b ≡ false
+  pub no_run : run_character b ≡ None
+  pub placed : is_unplaced b ≡ false
+  pub text : text_named b ≡ Some ix
+  pub alignments : alignments_named b ≡ None
+  pub attributes : attributes_named b ≡ None
+  pub loose : is_tight_paragraph b ≡ false
+
+-- the newest text may be named
+pub text_placed : (few many : PartCounts) (b : ItemBody) (ix : ℕ)
+    → ix ≡ few.texts → one_text_more few many → NamesText b ix → MayBePlaced few many b
+text_placed few many b ix e more n = search (arith, no_name, alignments_named, attributes_named, n.text)
+
+-- the newest alignments may be named by a table
+pub table_placed : (few many : PartCounts) (ix : AlignmentIndex)
+    → ix.0 ≡ few.alignments → many.alignments ≡ few.alignments + 1
+    → many.texts ≡ few.texts → many.attributes ≡ few.attributes → MayBePlaced few many (body.Table ix)
+table_placed few many ix e alignments texts attributes = search (arith)
+
+-- the newest attributes may be named by a heading
+pub heading_placed : (few many : PartCounts) (level : HeadingLevel) (ix : HeadingIndex)
+    → ix.0 ≡ many.attributes → many.attributes ≡ few.attributes + 1
+    → many.texts ≡ few.texts → many.alignments ≡ few.alignments → MayBePlaced few many (body.Heading level (Some ix))
+heading_placed few many level ix e attributes texts alignments = search (arith)
+
+-- ---- markup: the text of the ranges over which open items are placed
+
+-- the bytes from a place on, where each is a given one
+bytes_same : (n : ℕ) (text : List ℕ) (at byte : ℕ) → at + n ≤ length text
+    → ((p : ℕ) → at ≤ p → p < at + n → get_or text p 0 ≡ byte) → take n (drop at text) ≡ replicate n byte
+bytes_same zero text at byte low h = refl
+bytes_same (suc n) text at byte low h = let head : get_or text at 0 ≡ byte = h at (omega arith) (omega arith) in
+    let tail : take n (drop (suc at) text) ≡ replicate n byte =
+    bytes_same n text (suc at) byte (omega (arith, low)) (λ p a b. h p (omega (arith, a)) (omega (arith, b))) in
+    search (arith, take, drop-cons, drop)
+
+-- the bytes of a run are copies of its byte
+pub run_source : (text : List ℕ) (from to byte : ℕ)
+    → IsRunOf byte text from to → slice_range text from to ≡ replicate (to - from) byte
+run_source text from to byte r = bytes_same (to - from) text from byte
+    (omega (arith, r.more, r.within)) (λ p a b. r.same p a (omega (arith, b, r.more)))
+
+-- one byte
+pub one_source : (text : List ℕ) (at : ℕ) → at < length text → slice_range text at (at + 1) ≡ slice_index text at ∷ []
+one_source text at low = run_source text at (at + 1) (slice_index text at) (record {
+  more = omega arith;
+  within = omega (arith, low);
+  same = λ p a b. let e : p ≡ at = omega (arith, a, b) in ap (slice_index text) e;
+}) ∙ (let n : (at + 1) - at ≡ 1 = omega arith in rw n refl)
+
+-- two bytes
+pub two_source : (text : List ℕ) (at : ℕ)
+    → at + 1 < length text → slice_range text at (at + 2) ≡ slice_index text at ∷ slice_index text (at + 1) ∷ []
+two_source text at low = search (arith, take, drop-cons, slice_index)
+
+-- after each byte of a run of ASCII a character begins
+pub run_boundary : (text : List ℕ) (from to byte : ℕ)
+    → IsUtf8 text → IsRunOf byte text from to → byte < 128 → (p : ℕ) → from < p → p ≤ to → IsCharBoundary text p
+run_boundary text from to byte utf8 r ascii p low high = let back : (p - 1) + 1 ≡ p = omega (arith, low) in
+    let here = r.same (p - 1) (omega (arith, low)) (omega (arith, low, high)) in rw back at
+    (IsCharBoundary-after_ascii text (p - 1) utf8 (omega (arith, low, high, r.within)) (omega (arith, here, ascii)))
+
+-- a quotation mark is one of two bytes
+quote_is : (test : Bool) (quote byte : ℕ) → cond test (Some quote) None ≡ Some byte → (quote ≡ byte) × (test ≡ true)
+quote_is test quote byte h1 = grind (arith)
+
+quote_ascii : (quote : ℕ) → ((quote == 34) || (quote == 39)) ≡ true → quote < 128
+quote_ascii quote h = grind (arith, nat_tests)
+
+-- an open item over one byte
+pub mark_facts : (b : ItemBody) (byte : ℕ) → mark_byte b ≡ Some byte → StandsOver b (byte ∷ []) × (byte < 128)
+mark_facts b byte h1 = grind (arith, plain, quote_is, quote_ascii)
 
 -- ---- one field of the nodes
 
@@ -106,35 +311,26 @@ linked false to = λ n. record n { next = Some to }
 -- the link of a number is a field of its node
 link_field : (d : Bool) (nodes : List (Node Item)) (i : ℕ)
     → link_of (links_of nodes) d i ≡ slice_index_or (map (link d) nodes) i None
-link_field true nodes i = refl
-link_field false nodes i = refl
+link_field d nodes i = grind (arith)
 
 -- a node that is linked keeps its item and has that link
 item_linked : (down : Bool) (to : ℕ) (n : Node Item) → (linked down to n).item ≡ n.item
-item_linked true to n = refl
-item_linked false to n = refl
+item_linked down to n = grind (arith)
 
 link_linked : (down : Bool) (to : ℕ) (n : Node Item) → link down (linked down to n) ≡ Some to
-link_linked true to n = refl
-link_linked false to n = refl
+link_linked down to n = grind (arith)
 
 -- other links stay
 others_linked : (down d : Bool) (to at i : ℕ) (nodes : List (Node Item)) → ((d ≡ down) × (i ≡ at) → ⊥) → slice_index_or
     (map (link d) (changed_at at (linked down to) nodes)) i None ≡ slice_index_or (map (link d) nodes) i None
-others_linked true true to at i nodes k = field_elsewhere (link true) None (linked true to) at i nodes
-    (λ e. k (refl, e))
-others_linked false false to at i nodes k = field_elsewhere (link false) None (linked false to) at i nodes
-    (λ e. k (refl, e))
-others_linked true false to at i nodes k = field_kept (link false) None (linked true to) (λ n. refl) at i nodes
-others_linked false true to at i nodes k = field_kept (link true) None (linked false to) (λ n. refl) at i nodes
+others_linked down d to at i nodes h1 = grind (arith, field_elsewhere, field_kept)
 
 -- a node without links
 abbrev alone : Item → Node Item
 alone item = record { item = item; child = None; next = None }
 
 link_alone : (d : Bool) (item : Item) → link d (alone item) ≡ None
-link_alone true item = refl
-link_alone false item = refl
+link_alone d item = grind (arith)
 
 -- an append at a place
 grows_at : (down : Bool) (old : List (Node Item)) (at : ℕ) (item : Item)
@@ -205,8 +401,7 @@ last_changed f (m ∷ nodes) n = cc (last_changed f nodes n)
 last_led : (y : Item) (nodes : List (Node Item)) (n : Node Item) (spine : List ℕ) (cursor : Option ℕ)
     → changed_at (length nodes) (λ m. record m { item = y }) (led_to (length nodes) spine cursor (nodes ++ n ∷ []))
     ≡ led_to (length nodes) spine cursor (nodes ++ record n { item = y } ∷ [])
-last_led y nodes n spine (Some before) = search (arith, changes_commute, length, changed_at, last_changed)
-last_led y nodes n spine None = search (arith, changes_commute, length, innermost, changed_at, last_changed)
+last_led y nodes n spine cursor = grind (arith, changes_commute, length, changed_at, last_changed, innermost)
 
 -- an item that is appended and then replaced by another is as that other one appended
 pub appended_then_written : (tree : Arena Item) (x y : Item)
@@ -226,12 +421,7 @@ same_or_not i j = grind (arith, cases_lt i j, cases_lt j i)
 
 -- two places are one, or they are not
 pub same_place : (d down : Bool) (i at : ℕ) → ((d ≡ down) × (i ≡ at)) ⊎ ((d ≡ down) × (i ≡ at) → ⊥)
-same_place true true i at = ⊎_elim (λ (e : i ≡ at). inl (refl, e)) (λ (n : i ≡ at → ⊥). inr (λ p. n p.1))
-    (same_or_not i at)
-same_place false false i at = ⊎_elim (λ (e : i ≡ at). inl (refl, e)) (λ (n : i ≡ at → ⊥). inr (λ p. n p.1))
-    (same_or_not i at)
-same_place true false i at = inr (λ p. let e = p.0 in cc (e))
-same_place false true i at = inr (λ p. let e = p.0 in cc (e))
+same_place d down i at = grind (arith, same_or_not)
 
 -- the link that an append makes
 pub record IsNewLink (size : ℕ) (down d : Bool) (at i j : ℕ) : Type 0 where
@@ -243,11 +433,7 @@ pub record IsNewLink (size : ℕ) (down d : Bool) (at i j : ℕ) : Type 0 where
 pub which_link : (old new : List (Node Item)) (down : Bool) (at : ℕ) (x : Item)
     → Grows old new down at x → (d : Bool) (i j : ℕ)
     → link_of (links_of new) d i ≡ Some j → IsNewLink (length old) down d at i j ⊎ (link_of (links_of old) d i ≡ Some j)
-which_link old new down at x g d i j e = search (arith, inl, new_to, inr, same_place, g.other_links)
-  where
-    new_to : d ≡ down → i ≡ at → j ≡ length old
-    new_to p q = let a : link_of (links_of new) d i ≡ Some (length old) = rw (p, q) g.new_link in
-        let b : Some j ≡ Some (length old) = sym e ∙ a in cc (b)
+which_link old new down at x h1 d i j h2 = grind (arith, same_place, length, link_of, links_of)
 
 -- links rise
 append_rising : (old new : List (Node Item)) (down : Bool) (at : ℕ) (x : Item)
@@ -266,17 +452,14 @@ fits_more text few many item m f = assumption (named_more few many item.body m f
 
 -- what is true of a reference where there is one is true of this one
 of_name : (o : Option ℕ) (P : ℕ → Type 0) (t : ℕ) → IfSome o P → o ≡ Some t → P t
-of_name None P t h e = cc (e)
-of_name (Some u) P t h e = let q : u ≡ t = cc (e) in rw q at h
+of_name o P t h1 h2 = grind (arith)
 
 -- old names are small
 low_names : (name : ItemBody → Option ℕ) (nodes : List (Node Item)) (count : ℕ)
     → name body.Root ≡ None → (item_at nodes 0).body ≡ body.Root
     → ((i : ℕ) → 0 < i → i < length nodes → IfSome (name (item_at nodes i).body) (λ ix. ix < count))
     → (i t : ℕ) → name (item_at nodes i).body ≡ Some t → t < count
-low_names name nodes count none root low zero t e = let a : name (item_at nodes 0).body
-    ≡ None = rw root none in cc (a, e)
-low_names name nodes count none root low (suc i) t e = search (arith, length, of_name, item_at, item_beyond, cases_lt)
+low_names name nodes count h1 h2 h3 i t h4 = grind (arith, item_at, length, of_name, item_beyond, cases_lt)
 
 -- entries are referred to once where a new item refers to a new one
 once_more : (name : ItemBody → Option ℕ) (old new : List (Node Item)) (down : Bool) (at : ℕ) (x : Item) (count : ℕ)
@@ -329,20 +512,17 @@ append_keeps text few many old new down at x k g low more fits names link = reco
 -- a link fits with another item at its start
 pub fits_from : (d : Bool) (a b : Numbered) (c : Numbered)
     → a.number ≡ b.number → MayReplace a.item b.item → LinkFits d a c → LinkFits d b c
-fits_from true a b c e m l = search (arith, chain_of_one, parent_of_one, b.item.body, a.item.body)
-fits_from false a b c e m l = search (arith, is_inline, l.inline_in_order, m.end)
+fits_from d a b c h1 h2 h3 = grind (arith, chain_of_one, parent_of_one, is_inline)
 
 -- and at its end
 fits_to : (d : Bool) (a b : Numbered) (c : Numbered)
     → a.number ≡ b.number → MayReplace a.item b.item → LinkFits d c a → LinkFits d c b
-fits_to true a b c e m l = search (arith, chain_of_one, parent_of_one, c.item.body)
-fits_to false a b c e m l = search (arith, is_inline, l.inline_in_order, m.start)
+fits_to d a b c h1 h2 h3 = grind (arith, chain_of_one, parent_of_one, is_inline)
 
 -- what holds of the item of a number still does, where it does of the one that is written there
 pub stays_fit : (P : Numbered → Type 0) (old new : List (Node Item)) (at i : ℕ) (x : Item)
     → Writes old new at x → (i ≡ at → P (record { number = i; item = x })) → P (numbered old i) → P (numbered new i)
-stays_fit P old new at i x w here elsewhere = ⊎_elim (λ (q : i ≡ at). rw (q, w.new_item) (rw q at (here q)))
-    (λ (q : i ≡ at → ⊥). rw (w.old_items i q) elsewhere) (same_or_not i at)
+stays_fit P old new at i x h1 h2 h3 = grind (arith, same_or_not)
 
 -- a written item keeps all
 pub write_keeps : (text : List ℕ) (counts : PartCounts) (old new : List (Node Item)) (at : ℕ) (x : Item)
@@ -388,42 +568,21 @@ at_number number item = record { number = number; item = item }
 character_followed : (text : List ℕ) (a : Numbered) (old new : Option Numbered)
     → ((count : ℕ) (opens closes : Bool) → RunGoesOn text a count opens closes old
     → RunGoesOn text a count opens closes new) → RunsAreWhole text a old → RunsAreWhole text a new
-character_followed text a old new goes h = of_character (run_character a.item.body) h
-  where
-    of_character : (o : Option RunCharacter) → IfSome o (StandsInRun text a old) → IfSome o (StandsInRun text a new)
-    of_character None h = tt
-    of_character (Some c) h = assumption (goes c.count c.can_open c.can_close h.goes_on)
+character_followed text a old new h1 h2 = grind (arith, run_character)
 
 -- the last item of a chain may be followed by one that ends its run
 pub run_followed : (text : List ℕ) (a b : Numbered)
     → EndsRun text a (Some b) → RunsAreWhole text a None → RunsAreWhole text a (Some b)
-run_followed text a b ends = character_followed text a None (Some b) goes
-  where
-    goes : (count : ℕ) (opens closes : Bool)
-        → RunGoesOn text a count opens closes None → RunGoesOn text a count opens closes (Some b)
-    goes zero opens closes h = h
-    goes (suc zero) opens closes h = ends
-    goes (suc (suc count)) opens closes h = absurd h
+run_followed text a b h1 = grind (arith, character_followed)
 
 -- an item that is no character of a run may be replaced by one that ends the run before it
 pub character_replaced : (text : List ℕ) (a b c : Numbered) (r : RunCharacter) → run_character b.item.body ≡ None
     → EndsRun text a (Some c) → StandsInRun text a (Some b) r → StandsInRun text a (Some c) r
-character_replaced text a b c r none ends h = assumption (goes r.count r.can_open r.can_close h.goes_on)
-  where
-    goes : (count : ℕ) (opens closes : Bool)
-        → RunGoesOn text a count opens closes (Some b) → RunGoesOn text a count opens closes (Some c)
-    goes zero opens closes h = h
-    goes (suc zero) opens closes h = ends
-    goes (suc (suc count)) opens closes h = let e = h.body in cc (none, e)
+character_replaced text a b c r h1 h2 h3 = grind (arith)
 
 pub run_replaced : (text : List ℕ) (a b c : Numbered) → run_character b.item.body ≡ None
     → EndsRun text a (Some c) → RunsAreWhole text a (Some b) → RunsAreWhole text a (Some c)
-run_replaced text a b c none ends h = of_character (run_character a.item.body) h
-  where
-    of_character : (o : Option RunCharacter)
-        → IfSome o (StandsInRun text a (Some b)) → IfSome o (StandsInRun text a (Some c))
-    of_character None h = tt
-    of_character (Some r) h = character_replaced text a b c r none ends h
+run_replaced text a b c h1 h2 h3 = grind (arith, run_character, character_replaced)
 
 -- what is no character of a run ends each
 pub ends_run : (text : List ℕ) (a b : Numbered) → run_character b.item.body ≡ None → EndsRun text a (Some b)
@@ -432,8 +591,7 @@ ends_run text a b none = rw none tt
 -- the same node is followed by the same item
 next_same : (old new : List (Node Item)) (o p : Option ℕ) → p ≡ o
     → ((j : ℕ) → o ≡ Some j → item_at new j ≡ item_at old j) → option_map (numbered new) p ≡ option_map (numbered old) o
-next_same old new None p e h = ap (λ (q : Option ℕ). option_map (numbered new) q) e
-next_same old new (Some j) p e h = cc (e, h j refl)
+next_same old new o p h1 h2 = grind (arith, option_map, numbered)
 
 -- one more item keeps all runs whole, if it is no character of a run
 pub runs_appended : (text : List ℕ) (old new : List (Node Item)) (down : Bool) (at : ℕ) (x : Item)

@@ -1,10 +1,9 @@
 -- What each step of a builder makes of the levels that its callers see, with what their items refer to: a part that is
 -- added changes nothing of what earlier items refer to.
-use Rattle.std.proofs.Common.{◌-◌}
+use Rattle.std.proofs.Common.{◌-◌, ◌≡◌, ℕ, zero, suc, List, [], ◌∷◌, Some, Bool, map, refl, ap, cond, arith, ◌≤◌, ◌<◌}
+use Rattle.std.proofs.Common.{◌++◌, length, ◌+◌}
 use Rattle.markdown_builder.specs.TreeSteps.{texts_appended, run_marked}
-use Rattle.markdown_builder.proofs.ClosedLevelLemmas.{run_levels}
-use Rattle.std.proofs.Common.{◌≡◌, ℕ, zero, suc, List, [], ◌∷◌, Some, None, Bool, map, refl, ap, cond, arith, ◌≤◌}
-use Rattle.std.proofs.Common.{◌<◌, ◌++◌, length, sym, ◌∙◌, ◌+◌}
+use Rattle.markdown_builder.proofs.LaidLemmas.{run_levels, append_levels, enter_levels}
 use Rattle.markdown_base.specs.declared.item.Item.{Item}
 use Rattle.markdown_base.specs.declared.item.ItemBody.{ItemBody}
 use Rattle.markdown_base.specs.declared.item.ItemBody.TheVariants as body
@@ -20,8 +19,7 @@ use Rattle.markdown_builder.specs.TreeLevels.{tight_body, tight_if_paragraph, ro
 use Rattle.markdown_builder.specs.TreeLevels.{all_but_last, in_last, levels_in, levels_of}
 use Rattle.std.specs.Prelude.{slice_get}
 use Rattle.std.specs.List.{AllByRecursion}
-use Rattle.std.proofs.lemmas.List.{get_or_append_left, length-append, length-map, map-append}
-use Rattle.std.proofs.lemmas.Option.{slice_get-get_or}
+use Rattle.std.proofs.lemmas.List.{length-append, length-map, map-append}
 use Rattle.markdown_base.specs.Arena.{Arena}
 use Rattle.markdown_base.specs.ArenaForest.{numbers_below}
 use Rattle.markdown_base.specs.BlockTree.{item_at, numbered, tree_of}
@@ -31,7 +29,6 @@ use Rattle.markdown_builder.proofs.FormedLemmas.{throughout_below}
 use Rattle.markdown_base.specs.ArenaChanges.{appended}
 use Rattle.markdown_builder.specs.Levels.{IsLaidOut}
 use Rattle.markdown_builder.specs.Standing.{entered}
-use Rattle.markdown_builder.proofs.ClosedLevelLemmas.{append_levels, enter_levels}
 use Rattle.std.specs.declared.alloc.Global.{Global}
 use Rattle.std.specs.declared.vec.Vec.{Vec}
 use Rattle.markdown_base.specs.CowText.{text_of}
@@ -75,33 +72,25 @@ relabelled_items f c d h (node a below after) = cc (relabelled_roots f c d h bel
 -- ---- tight paragraphs
 
 tight_unnumbered : (b : ItemBody) → unnumbered (tight_body b) ≡ tight_body (unnumbered b)
-tight_unnumbered body.Paragraph = refl
-tight_unnumbered (body.Heading level None) = refl
-tight_unnumbered (body.Heading level (Some ix)) = refl
-tight_unnumbered other = refl
+tight_unnumbered b = grind (arith)
 
 tight_text : (texts : List (List ℕ)) (b : ItemBody) → text_shown texts (tight_body b) ≡ text_shown texts b
-tight_text texts body.Paragraph = refl
-tight_text texts other = refl
+tight_text texts b = grind (arith)
 
 tight_heading : (headings : List HeadingWords) (b : ItemBody)
     → heading_shown headings (tight_body b) ≡ heading_shown headings b
-tight_heading headings body.Paragraph = refl
-tight_heading headings other = refl
+tight_heading headings b = grind (arith)
 
 tight_alignments : (alignments : List (List Alignment)) (b : ItemBody)
     → alignments_shown alignments (tight_body b) ≡ alignments_shown alignments b
-tight_alignments alignments body.Paragraph = refl
-tight_alignments alignments other = refl
+tight_alignments alignments b = grind (arith)
 
 tight_is : (parts : Parts) (item : Item)
     → shown_item parts (tight_if_paragraph item) ≡ tight_shown (shown_item parts item)
 tight_is parts item = search (arith, tight_unnumbered, tight_text, tight_heading, tight_alignments)
 
 tight_list_is : (b : ItemBody) → is_tight_list (unnumbered b) ≡ is_tight_list b
-tight_list_is (body.Heading level None) = refl
-tight_list_is (body.Heading level (Some ix)) = refl
-tight_list_is other = refl
+tight_list_is b = grind (arith)
 
 settled_is : (parts : Parts) (a : Item) (g : Forest Item)
     → shown_trees parts (below_closed a g) ≡ settled_below (shown_item parts a) (shown_trees parts g)
@@ -156,36 +145,20 @@ AreNamed counts levels = AllByRecursion (λ trees. Each (λ item. PartsAreNamed 
 
 -- ---- what is found in a longer list
 
-get_of_more : {A : Type 0} (xs ys : List A) (n : ℕ) → n < length xs → slice_get (xs ++ ys) n ≡ slice_get xs n
+pub get_of_more : {A : Type 0} (xs ys : List A) (n : ℕ) → n < length xs → slice_get (xs ++ ys) n ≡ slice_get xs n
 get_of_more [] ys n lt = absurd (omega (arith, lt))
-get_of_more (x ∷ xs) ys n lt = let within : n < length (x ∷ xs ++ ys) = omega (arith, lt, length-append (x ∷ xs) ys) in
-    slice_get-get_or (x ∷ xs ++ ys) n x within
-    ∙ (ap (λ y. Some y) (get_or_append_left (x ∷ xs) ys x n lt) ∙ sym (slice_get-get_or (x ∷ xs) n x lt))
+get_of_more (x ∷ xs) ys zero lt = refl
+get_of_more (x ∷ xs) ys (suc n) lt = get_of_more xs ys n (omega (arith, lt))
 
-text_of_more : (texts more : List (List ℕ)) (b : ItemBody) (counts : PartCounts)
-    → counts.texts ≡ length texts → PartsAreNamed counts b → text_shown (texts ++ more) b ≡ text_shown texts b
-text_of_more texts more (body.SynthesizeText ix) counts e named =
-    let lt = named.text in get_of_more texts more ix.0 (omega (arith, lt, e))
-text_of_more texts more (body.FencedCodeBlock ix) counts e named =
-    let lt = named.text in get_of_more texts more ix.0 (omega (arith, lt, e))
-text_of_more texts more (body.FootnoteDefinition ix) counts e named =
-    let lt = named.text in get_of_more texts more ix.0 (omega (arith, lt, e))
-text_of_more texts more other counts e named = refl
+-- what is found among some parts is found among more
+pub record Extends (parts more : Parts) : Type 0 where
+  pub texts : (n : ℕ) → n < length parts.texts → slice_get more.texts n ≡ slice_get parts.texts n
+  pub headings : (n : ℕ) → n < length parts.headings → slice_get more.headings n ≡ slice_get parts.headings n
+  pub alignments : (n : ℕ) → n < length parts.alignments → slice_get more.alignments n ≡ slice_get parts.alignments n
 
-heading_of_more : (headings more : List HeadingWords) (b : ItemBody) (counts : PartCounts)
-    → counts.attributes ≡ length headings
-    → PartsAreNamed counts b → heading_shown (headings ++ more) b ≡ heading_shown headings b
-heading_of_more headings more (body.Heading level (Some ix)) counts e named =
-    search (arith, get_of_more, named.attributes, ix.0)
-heading_of_more headings more (body.Heading level None) counts e named = refl
-heading_of_more headings more other counts e named = refl
-
-alignments_of_more : (alignments more : List (List Alignment)) (b : ItemBody) (counts : PartCounts)
-    → counts.alignments ≡ length alignments
-    → PartsAreNamed counts b → alignments_shown (alignments ++ more) b ≡ alignments_shown alignments b
-alignments_of_more alignments more (body.Table ix) counts e named = let lt = named.alignments in
-    cc (get_of_more alignments more ix.0 (omega (arith, lt, e)))
-alignments_of_more alignments more other counts e named = refl
+shown_of_more : (parts more : Parts) → Extends parts more → (a : Item) → PartsAreNamed (counts_in parts) a.body
+    → shown_item more a ≡ shown_item parts a
+shown_of_more parts more e a named = grind (arith, e.texts, e.headings, e.alignments)
 
 -- ---- the same labels
 
@@ -195,26 +168,12 @@ same_labels f g P nil h e = refl
 same_labels f g P (node a below after) h e =
     search (arith, same_labels f g P below h e.1, same_labels f g P after h e.2)
 
-same_levels : (p q : Parts) (counts : PartCounts) (levels : List (Forest Item))
-    → ((a : Item) → PartsAreNamed counts a.body → shown_item p a ≡ shown_item q a)
-    → AreNamed counts levels → shown_levels p levels ≡ shown_levels q levels
-same_levels p q counts [] h e = refl
-same_levels p q counts (level ∷ levels) h e = search (arith, same_labels, same_levels p q counts levels h e.1)
-
-pub more_texts : (parts : Parts) (more : List (List ℕ)) (levels : List (Forest Item))
-    → AreNamed (counts_in parts) levels
-    → shown_levels (record parts { texts = parts.texts ++ more }) levels ≡ shown_levels parts levels
-more_texts parts more levels named = search (arith, same_levels, counts_in, text_of_more, parts.texts)
-
-pub more_headings : (parts : Parts) (more : List HeadingWords) (levels : List (Forest Item))
-    → AreNamed (counts_in parts) levels
-    → shown_levels (record parts { headings = parts.headings ++ more }) levels ≡ shown_levels parts levels
-more_headings parts more levels named = search (arith, same_levels, counts_in, heading_of_more, parts.headings)
-
-pub more_alignments : (parts : Parts) (more : List (List Alignment)) (levels : List (Forest Item))
-    → AreNamed (counts_in parts) levels
-    → shown_levels (record parts { alignments = parts.alignments ++ more }) levels ≡ shown_levels parts levels
-more_alignments parts more levels named = search (arith, same_levels, counts_in, alignments_of_more, parts.alignments)
+-- items refer to what they did
+pub more_shown : (parts more : Parts) (levels : List (Forest Item))
+    → Extends parts more → AreNamed (counts_in parts) levels → shown_levels more levels ≡ shown_levels parts levels
+more_shown parts more [] e named = refl
+more_shown parts more (level ∷ levels) e named =
+    search (arith, same_labels, shown_of_more, more_shown parts more levels e named.1)
 
 -- ---- each item refers to parts that are there
 
@@ -275,9 +234,7 @@ pub appended_shown : (parts : Parts) {tree new : Arena Item} {start end : ℕ} {
     → new ≡ appended tree (record { start = start; end = end; body = b }) → IsLaidOut tree
     → shown_item parts (record { start = start; end = end; body = b }) ≡ plain_item start end b → shown_levels
     parts (levels_of new) ≡ with_items (shown_levels parts (levels_of tree)) (plain_item start end b ∷ [])
-appended_shown parts {tree} {new} {start} {end} {b} made laid plain =
-    let item : Item = record { start = start; end = end; body = b } in
-    cc (append_levels tree item laid, trees_shown parts (levels_of tree) (node item nil nil), plain)
+appended_shown parts h1 h2 h3 = grind (arith, append_levels, trees_shown, levels_of)
 
 -- the last of a longer list
 pub get_last : {A : Type 0} (xs : List A) (y : A) → slice_get (xs ++ y ∷ []) (length xs) ≡ Some y
@@ -290,15 +247,10 @@ pub text_shown_too : (parts : Parts) {tree new : Arena Item} (start end : ℕ) (
     → IsLaidOut tree → ix.0 ≡ length parts.texts → AreNamed (counts_in parts) (levels_of tree)
     → shown_levels (record parts { texts = parts.texts ++ t ∷ [] }) (levels_of new)
     ≡ with_items (shown_levels parts (levels_of tree)) (synthesized_item start end t ∷ [])
-text_shown_too parts {tree} {new} start end ix t made laid number named =
+text_shown_too parts {tree} start end ix t h1 h2 h3 named =
     let more : Parts = record parts { texts = parts.texts ++ t ∷ [] } in
-    let item : Item = record { start = start; end = end; body = body.SynthesizeText ix } in
-    let found : slice_get (parts.texts ++ t ∷ []) ix.0 ≡ Some t = rw number (get_last parts.texts t) in
-    cc (
-      append_levels tree item laid,
-      trees_shown more (levels_of tree) (node item nil nil),
-      more_texts parts (t ∷ []) (levels_of tree) named,
-    )
+    let kept : Extends parts more = search (arith, get_of_more) in
+    grind (arith, get_last, append_levels, trees_shown, more_shown parts more (levels_of tree) kept named)
 
 -- a block is opened, and a part may be added
 pub opened_shown : (parts more : Parts) {tree new : Arena Item} (x : Item)

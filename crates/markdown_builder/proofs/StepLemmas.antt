@@ -24,7 +24,8 @@ use Rattle.markdown_builder.specs.Standing.{covered_to, AreCovered, Stands, open
 use Rattle.markdown_builder.specs.Standing.{IsSound}
 use Rattle.markdown_builder.proofs.NodeWriteLemmas.{Grows, Writes, append_grows, item_beyond, same_or_not, same_item}
 use Rattle.markdown_builder.proofs.NodeWriteLemmas.{append_keeps, fits_more, write_keeps, item_writes, runs_appended}
-use Rattle.markdown_builder.proofs.NodeWriteLemmas.{runs_written}
+use Rattle.markdown_builder.proofs.NodeWriteLemmas.{runs_written, item_over, MayBePlaced, placed_fits, placed_new}
+use Rattle.markdown_builder.proofs.NodeWriteLemmas.{block_markup, block_no_run, chain_of_one, parent_not_inline}
 use Rattle.std.specs.Str.{IsCharBoundary, IsUtf8}
 use Rattle.std.proofs.lemmas.Bool.{cases_lt}
 use Rattle.std.proofs.lemmas.List.Folds.{list_any-append}
@@ -39,8 +40,6 @@ use Rattle.markdown_builder.specs.Bodies.{is_leaf}
 use Rattle.markdown_builder.specs.BuilderView.{IsWhite}
 use Rattle.markdown_builder.specs.Tightness.{is_tight_list}
 use Rattle.markdown_builder.specs.ClosedLists.{IsNotOpen, ListsAreTight}
-use Rattle.markdown_builder.proofs.BodiesLemmas.{item_over, MayBePlaced, placed_fits, placed_new, block_markup}
-use Rattle.markdown_builder.proofs.BodiesLemmas.{block_no_run, chain_of_one, parent_not_inline}
 use Rattle.markdown_builder.proofs.ClosedListLemmas.{not_both, lists_appended, lists_entered, lists_written}
 use Rattle.markdown_builder.proofs.ClosedListLemmas.{open_is_loose, OthersAreTight, lists_left}
 use Rattle.markdown_builder.proofs.LaidLemmas.{append_is_laid, enter_is_laid}
@@ -54,8 +53,7 @@ All-always P h (x ∷ xs) = (h x, All-always P h xs)
 
 -- a link that leads nowhere
 nowhere : (o : Option ℕ) → ((j : ℕ) → o ≡ Some j → ⊥) → o ≡ None
-nowhere None h = refl
-nowhere (Some j) h = absurd (h j refl)
+nowhere o h1 = grind (arith)
 
 -- the newest node has no links
 newest_free : (k : Links) (n : ℕ) (d : Bool) → AreRising k → k.size ≡ suc n → link_of k d n ≡ None
@@ -68,9 +66,8 @@ pub open_map : (P : ℕ → Type 0) (old new : List (Node Item))
     → ((s : ℕ) (b : OpenBlock) → P s → IsOpenAt old s b → IsOpenAt new s b) → (spine : List ℕ) (blocks : List OpenBlock)
     → AllByRecursion P spine → AreOpen old spine blocks → AreOpen new spine blocks
 open_map P old new h [] [] a o = tt
-open_map P old new h [] (b ∷ blocks) a o = o
-open_map P old new h (s ∷ spine) [] a o = o
 open_map P old new h (s ∷ spine) (b ∷ blocks) a o = (h s b a.0 o.0, o.1, open_map P old new h spine blocks a.1 o.2)
+open_map P old new h spine blocks a o = absurd o
 
 -- open blocks stay open where an item is written into a node that holds none of them
 pub open_written : (P : ℕ → Type 0) (old new : List (Node Item)) (at : ℕ) (x : Item) → Writes old new at x
@@ -83,19 +80,17 @@ open_written P old new at x w other spine blocks =
 pub open_low : (nodes : List (Node Item)) (spine : List ℕ) (blocks : List OpenBlock)
     → AreOpen nodes spine blocks → AllByRecursion (λ s. s < length nodes) spine
 open_low nodes [] [] o = tt
-open_low nodes [] (b ∷ blocks) o = absurd o
-open_low nodes (s ∷ spine) [] o = absurd o
 open_low nodes (s ∷ spine) (b ∷ blocks) o = (o.0.low, open_low nodes spine blocks o.2)
+open_low nodes spine blocks o = absurd o
 
 -- one more open block
 pub open_snoc : (nodes : List (Node Item)) (n : ℕ) (block : OpenBlock) (spine : List ℕ) (blocks : List OpenBlock)
     → AreOpen nodes spine blocks → AllByRecursion (λ s. s < n) spine
     → IsOpenAt nodes n block → AreOpen nodes (spine ++ n ∷ []) (blocks ++ block ∷ [])
 open_snoc nodes n block [] [] o a i = (i, tt, tt)
-open_snoc nodes n block [] (b ∷ blocks) o a i = absurd o
-open_snoc nodes n block (s ∷ spine) [] o a i = absurd o
 open_snoc nodes n block (s ∷ spine) (b ∷ blocks) o a i =
     (o.0, All-snoc (λ t. s < t) spine n o.1 a.0, open_snoc nodes n block spine blocks o.2 a.1 i)
+open_snoc nodes n block spine blocks o a i = absurd o
 
 -- the innermost open block, and the others
 pub record IsInnermost (nodes : List (Node Item)) (n : ℕ) (block : OpenBlock) (spine : List ℕ) (blocks : List OpenBlock)
@@ -104,21 +99,13 @@ pub record IsInnermost (nodes : List (Node Item)) (n : ℕ) (block : OpenBlock) 
   pub others : AreOpen nodes spine blocks
   pub above : AllByRecursion (λ s. s < n) spine
 
--- where no block is open, no node was entered
-none_snoc : (nodes : List (Node Item)) (n : ℕ) (spine : List ℕ) → AreOpen nodes (spine ++ n ∷ []) [] → ⊥
-none_snoc nodes n [] o = o
-none_snoc nodes n (s ∷ spine) o = o
-
-snoc_none : (nodes : List (Node Item)) (block : OpenBlock) (blocks : List OpenBlock)
-    → AreOpen nodes [] (blocks ++ block ∷ []) → ⊥
-snoc_none nodes block [] o = o
-snoc_none nodes block (b ∷ blocks) o = o
-
 pub open_unsnoc : (nodes : List (Node Item)) (n : ℕ) (block : OpenBlock) (spine : List ℕ) (blocks : List OpenBlock)
     → AreOpen nodes (spine ++ n ∷ []) (blocks ++ block ∷ []) → IsInnermost nodes n block spine blocks
 open_unsnoc nodes n block [] [] o = record { here = o.0; others = tt; above = tt }
-open_unsnoc nodes n block [] (b ∷ blocks) o = absurd (snoc_none nodes block blocks o.2)
-open_unsnoc nodes n block (s ∷ spine) [] o = absurd (none_snoc nodes n spine o.2)
+open_unsnoc nodes n block [] (b ∷ []) o = absurd o.2
+open_unsnoc nodes n block [] (b ∷ c ∷ blocks) o = absurd o.2
+open_unsnoc nodes n block (s ∷ []) [] o = absurd o.2
+open_unsnoc nodes n block (s ∷ t ∷ spine) [] o = absurd o.2
 open_unsnoc nodes n block (s ∷ spine) (b ∷ blocks) o = let r = open_unsnoc nodes n block spine blocks o.2 in
     record {
       here = r.here;
@@ -219,9 +206,7 @@ appended_fits s many x h more fits names kind low = let old = s.tree.nodes in
 
 -- of two tests one passes
 pub either_passes : (a b : Bool) → (a ≡ true) ⊎ IsTrue b → IsTrue (a || b)
-either_passes true b h = refl
-either_passes false true h = refl
-either_passes false false h = ⊎_elim (λ (e : false ≡ true). cc (e)) (λ (e : IsTrue false). cc (e)) h
+either_passes a b h1 = grind (arith)
 
 -- ---- the beginning
 
@@ -230,14 +215,10 @@ abbrev pub root_nodes : List (Node Item)
 root_nodes = single (record { start = 0; end = 0; body = body.Root }) ∷ []
 
 root_links : (d : Bool) (i : ℕ) → link_of (links_of root_nodes) d i ≡ None
-root_links true zero = refl
-root_links true (suc i) = refl
-root_links false zero = refl
-root_links false (suc i) = refl
+root_links d i = grind (arith)
 
 root_item : (i : ℕ) → (item_at root_nodes i).body ≡ body.Root
-root_item zero = refl
-root_item (suc i) = refl
+root_item i = grind (arith)
 
 no_root_link : (d : Bool) (i j : ℕ) → link_of (links_of root_nodes) d i ≡ Some j → ⊥
 no_root_link d i j e = let h = root_links d i in cc (h, e)
@@ -341,9 +322,7 @@ covered_added : (text : List ℕ) (nodes : List (Node Item))
     → AreOpen nodes spine blocks → IsTopPlace nodes spine (Some number)
     → item_at nodes number ≡ item_over at to b → AreCovered text nodes definitions (covered_to blocks at)
     → AreCovered text nodes definitions (covered_to blocks to)
-covered_added text nodes definitions [] [] number at to b o t e c = search (arith, inl, inside, cases_lt)
-covered_added text nodes definitions (s ∷ spine) [] number at to b o t e c = absurd o
-covered_added text nodes definitions spine (x ∷ blocks) number at to b o t e c = c
+covered_added text nodes definitions spine blocks number at to b h1 h2 h3 h4 = grind (arith, inside, cases_lt)
 
 -- the state with an item appended, which ends at a place
 abbrev pub after_item : State → PartCounts → ℕ → ItemBody → Option ℕ → State
@@ -393,14 +372,12 @@ added_placed s many to b run k placed markup low boundary kind = added s many to
 -- with another open block, as much is covered
 covered_open : (blocks : List OpenBlock) (block : OpenBlock)
     → covered_to (blocks ++ block ∷ []) block.start ≡ covered_to blocks block.start
-covered_open [] block = refl
-covered_open (b ∷ blocks) block = refl
+covered_open blocks block = grind (arith)
 
 -- the outermost open block is on top
 top_open : (nodes : List (Node Item)) (spine : List ℕ) (n : ℕ)
     → IsTopPlace nodes spine (Some n) → IsTopPlace nodes (spine ++ n ∷ []) None
-top_open nodes [] n t = t
-top_open nodes (s ∷ spine) n t = t
+top_open nodes spine n h1 = grind (arith)
 
 -- a block is open inside blocks that are no leaves
 leaves_open : (blocks : List OpenBlock) (block : OpenBlock)
@@ -498,8 +475,7 @@ closed_fits text counts b start end h low boundary f =
 top_closed : (old new : List (Node Item)) (spine : List ℕ) (n : ℕ)
     → ((d : Bool) (i j : ℕ) → link_of (links_of old) d i ≡ Some j → link_of (links_of new) d i ≡ Some j)
     → IsTopPlace old (spine ++ n ∷ []) None → IsTopPlace new spine (Some n)
-top_closed old new [] n h t = top_stays old new h n t
-top_closed old new (s ∷ spine) n h t = top_stays old new h s t
+top_closed old new spine n h1 h2 = grind (arith, top_stays)
 
 -- what is covered where a block was closed
 covered_closed : (text : List ℕ) (nodes : List (Node Item)) (definitions : List (CowStr × LinkDef))
@@ -507,10 +483,7 @@ covered_closed : (text : List ℕ) (nodes : List (Node Item)) (definitions : Lis
     → IsTopPlace nodes spine (Some n) → item_at nodes n ≡ item_over block.start at block.body
     → AreCovered text nodes definitions (covered_to (blocks ++ block ∷ []) at)
     → AreCovered text nodes definitions (covered_to blocks at)
-covered_closed text nodes definitions [] [] n at block o t e c =
-    covered_added text nodes definitions [] [] n block.start at block.body o t e c
-covered_closed text nodes definitions (s ∷ spine) [] n at block o t e c = absurd o
-covered_closed text nodes definitions spine (x ∷ blocks) n at block o t e c = c
+covered_closed text nodes definitions spine blocks n at block h1 h2 h3 h4 = grind (arith, covered_added)
 
 -- outside the innermost block no leaf is open
 leaves_closed : (blocks : List OpenBlock) (block : OpenBlock) (leaf : Bool)
@@ -522,10 +495,7 @@ leaves_closed (b ∷ c ∷ blocks) block leaf h = (h.0, leaves_closed (c ∷ blo
 -- what stands on top with the innermost block's number apart
 whole_top : (old : List (Node Item)) (all spine : List ℕ) (n : ℕ) (cursor : Option ℕ)
     → all ≡ spine ++ n ∷ [] → IsTopPlace old all cursor → IsTopPlace old (spine ++ n ∷ []) None
-whole_top old [] [] n cursor e t = cc (e)
-whole_top old [] (s ∷ spine) n cursor e t = cc (e)
-whole_top old (a ∷ all) [] n cursor e t = let q : a ≡ n = cc (e) in rw q at t
-whole_top old (a ∷ all) (s ∷ spine) n cursor e t = let q : a ≡ s = cc (e) in rw q at t
+whole_top old all spine n cursor h1 h2 = grind (arith)
 
 -- the state with a block left, whose end is written
 abbrev pub after_closing : State → List ℕ → List OpenBlock → ℕ → OpenBlock → State

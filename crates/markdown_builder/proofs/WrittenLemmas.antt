@@ -18,8 +18,8 @@ use Rattle.markdown_base.specs.BlockTree.{Numbered, item_at, numbered}
 use Rattle.markdown_base.specs.Coverage.{is_inside}
 use Rattle.markdown_base.specs.Item.{range_of, is_inline, is_childless, is_tight_paragraph, text_named}
 use Rattle.markdown_base.specs.Item.{alignments_named}
-use Rattle.markdown_base.specs.WellFormed.{source_of, run_character, byte_of, RunCharacter, is_delimiter}
-use Rattle.markdown_base.specs.WellFormed.{EndsRun, RunGoesOn, StandsInRun, RunsAreWhole}
+use Rattle.markdown_base.specs.WellFormed.{source_of, run_character, byte_of, is_delimiter, EndsRun, RunGoesOn}
+use Rattle.markdown_base.specs.WellFormed.{RunsAreWhole}
 use Rattle.markdown_base.proofs.ArenaLemmas.{All-snoc, All-front, All-last}
 use Rattle.markdown_builder.specs.declared.open_block.OpenBlock.{OpenBlock}
 use Rattle.markdown_builder.specs.Bodies.{is_leaf}
@@ -32,12 +32,11 @@ use Rattle.markdown_builder.specs.Levels.{IsLaidOut}
 use Rattle.markdown_builder.specs.TreeSteps.{Tightens, none_tight, one_tight, TightensList, is_paragraph, tight}
 use Rattle.markdown_builder.specs.TreeSteps.{byte_text, texts_appended, run_marked}
 use Rattle.markdown_builder.specs.ClosedLists.{IsNotOpen, ListsAreTight}
-use Rattle.markdown_builder.proofs.BodiesLemmas.{item_over, MayBePlaced, placed_fits, block_no_run, block_markup}
-use Rattle.markdown_builder.proofs.BodiesLemmas.{settled_alone, parent_not_inline, plain, plain_placed, placed_new}
-use Rattle.markdown_builder.proofs.BodiesLemmas.{run_boundary}
-use Rattle.markdown_builder.proofs.NodeWriteLemmas.{same_or_not, fits_from, stays_fit, write_keeps, Writes, item_writes}
-use Rattle.markdown_builder.proofs.NodeWriteLemmas.{runs_written, IsNewLink, which_link, Grows, at_number}
-use Rattle.markdown_builder.proofs.NodeWriteLemmas.{character_replaced, runs_rewritten}
+use Rattle.markdown_builder.proofs.NodeWriteLemmas.{item_over, MayBePlaced, placed_fits, block_no_run, block_markup}
+use Rattle.markdown_builder.proofs.NodeWriteLemmas.{settled_alone, parent_not_inline, plain, plain_placed, placed_new}
+use Rattle.markdown_builder.proofs.NodeWriteLemmas.{run_boundary, same_or_not, fits_from, stays_fit, write_keeps}
+use Rattle.markdown_builder.proofs.NodeWriteLemmas.{Writes, item_writes, runs_written, IsNewLink, which_link, Grows}
+use Rattle.markdown_builder.proofs.NodeWriteLemmas.{at_number, character_replaced, runs_rewritten}
 use Rattle.markdown_builder.proofs.LaidLemmas.{write_is_laid, run_is_laid}
 use Rattle.markdown_builder.proofs.ClosedListLemmas.{is_a_paragraph, lists_written, open_is_loose, lists_closed}
 use Rattle.markdown_builder.proofs.StepLemmas.{IsInnermost, open_snoc, open_unsnoc, open_written, top_stays, not_inside}
@@ -63,9 +62,7 @@ still_fits old new number place x y d w m l = let z : Numbered = record { number
 top_kept : (old new : List (Node Item))
     → ((d : Bool) (i j : ℕ) → link_of (links_of old) d i ≡ Some j → link_of (links_of new) d i ≡ Some j)
     → (spine : List ℕ) (cursor : Option ℕ) → IsTopPlace old spine cursor → IsTopPlace new spine cursor
-top_kept old new h [] None t = t
-top_kept old new h [] (Some c) t = top_stays old new h c t
-top_kept old new h (a ∷ spine) cursor t = top_stays old new h a t
+top_kept old new h1 spine cursor h2 = grind (arith, top_stays)
 
 -- an item is written where it covers what the one there covered, and the open blocks may have changed with it
 pub written : (s : State) (number : ℕ) (x : Item) (blocks : List OpenBlock) → Stands s → 0 < number
@@ -104,9 +101,7 @@ written s number x blocks h positive low fits m stays opens leaves covered begun
 -- where no character of a run is written, the run in focus stays
 last_written : (text : List ℕ) (old new : List (Node Item)) (number : ℕ) (x : Item) (cursor run : Option ℕ)
     → Writes old new number x → run_character x.body ≡ None → LastRun text old cursor run → LastRun text new cursor run
-last_written text old new number x None run w none l = tt
-last_written text old new number x (Some c) run w none l =
-    search (arith, item_at, run_character, byte_of, same_or_not, w.new_item, w.old_items)
+last_written text old new number x cursor run h1 h2 h3 = grind (arith, item_at, run_character, byte_of, same_or_not)
 
 -- a block is written in the place of a block
 pub block_written : (s : State) (number : ℕ) (x : Item) (blocks : List OpenBlock)
@@ -197,16 +192,7 @@ pub record StandsInnermost (s : State) (n : ℕ) (block : OpenBlock) (spine : Li
 
 pub innermost_stands : (s : State) (spine : List ℕ) (blocks : List OpenBlock) (n : ℕ) (block : OpenBlock) → IsSound s
     → s.blocks ≡ blocks ++ block ∷ [] → s.tree.spine ≡ spine ++ n ∷ [] → StandsInnermost s n block spine blocks
-innermost_stands s spine blocks n block k whole split = let old = s.tree.nodes in
-    let both : AreOpen old (spine ++ n ∷ []) (blocks ++ block ∷ []) = search (arith) in
-    let o : IsInnermost old n block spine blocks = open_unsnoc old n block spine blocks both in
-    record {
-      innermost = o;
-      fits = rw o.here.item at (k.stands.nodes.items n o.here.positive o.here.low);
-      leaves = rw whole at k.stands.leaves;
-      begun = rw whole at k.stands.begun;
-      covered = rw whole at k.stands.covered;
-    }
+innermost_stands s spine blocks n block h1 h2 h3 = grind (arith, open_unsnoc)
 
 -- another block is open in its place: of the same kind, and all before it is covered
 pub replaced : (s : State) (spine : List ℕ) (blocks : List OpenBlock) (n : ℕ) (block other : OpenBlock)
@@ -310,13 +296,7 @@ MayPrecede text byte item = IfSome (run_character item.body) (λ c. (byte == byt
 -- the item at the cursor may, where the run that callers see is of another character
 last_precedes : (text : List ℕ) (nodes : List (Node Item)) (cursor run : Option ℕ) (c byte : ℕ) → cursor ≡ Some c
     → LastRun text nodes cursor run → follows_run run byte ≡ false → MayPrecede text byte (item_at nodes c)
-last_precedes text nodes None run c byte e l f = cc (e)
-last_precedes text nodes (Some d) run c byte e l f = search (arith, of_character)
-  where
-    of_character : (o : Option RunCharacter) → IfSome o (λ r. run ≡ Some (byte_of text (item_at nodes d)))
-        → IfSome o (λ r. (byte == byte_of text (item_at nodes d)) ≡ false)
-    of_character None h = tt
-    of_character (Some r) h = rw h at f
+last_precedes text nodes cursor run c byte h1 h2 h3 = grind (arith, byte_of, item_at)
 
 -- a number of Texts follow what was there
 pub record TextsStand (s : State) (byte count : ℕ) (t : Arena Item) : Type 0 where
@@ -434,28 +414,18 @@ text_not_open nodes n a start b was z q = search (arith, is_inline, item_at, par
 -- a character of another byte ends a run
 byte_ends : (text : List ℕ) (byte : ℕ) (a c : Numbered)
     → byte_of text c.item ≡ byte → (byte == byte_of text a.item) ≡ false → EndsRun text a (Some c)
-byte_ends text byte a c same f = of_character (run_character c.item.body)
-  where
-    of_character : (o : Option RunCharacter) → IfSome o (λ q. (byte_of text c.item == byte_of text a.item) ≡ false)
-    of_character None = tt
-    of_character (Some q) = rw same f
+byte_ends text byte a c h1 h2 = grind (arith, run_character, byte_of)
 
 -- what may precede a run of a byte stays whole where an item that is not a run's character becomes one of this byte
 before_run : (text : List ℕ) (byte : ℕ) (a b c : Numbered)
     → run_character b.item.body ≡ None → byte_of text c.item ≡ byte
     → MayPrecede text byte a.item → RunsAreWhole text a (Some b) → RunsAreWhole text a (Some c)
-before_run text byte a b c none same may h = of_character (run_character a.item.body) may h
-  where
-    of_character : (o : Option RunCharacter) → IfSome o (λ r. (byte == byte_of text a.item) ≡ false)
-        → IfSome o (StandsInRun text a (Some b)) → IfSome o (StandsInRun text a (Some c))
-    of_character None f h = tt
-    of_character (Some r) f h = character_replaced text a b c r none (byte_ends text byte a c same f) h
+before_run text byte a b c h1 h2 h3 h4 = grind (arith, run_character, byte_of, character_replaced, byte_ends)
 
 -- the last item of a chain ends its run
 last_ends : (text : List ℕ) (nodes : List (Node Item)) (a : Numbered) (o : Option ℕ)
     → ((j : ℕ) → o ≡ Some j → ⊥) → EndsRun text a (option_map (numbered nodes) o)
-last_ends text nodes a None h = tt
-last_ends text nodes a (Some j) h = absurd (h j refl)
+last_ends text nodes a o h1 = grind (arith)
 
 -- the character that is written next continues with those after it
 goes_on : (s : State) (byte end total : ℕ) (opens closes : Bool) (t old : Arena Item) (m : ℕ)

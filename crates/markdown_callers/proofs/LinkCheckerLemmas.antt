@@ -1,6 +1,6 @@
 -- What one more event adds to the links of a text, and what the count is after some questions.
-use Rattle.std.proofs.Common.{◌≡◌, ℕ, ◌+◌, ◌≤◌, List, [], ◌∷◌, ◌++◌, length, map, min, Option, Some, None}
-use Rattle.std.proofs.Common.{append_assoc, ap, arith, refl, subst, sym, ◌∙◌}
+use Rattle.std.proofs.Common.{◌≡◌, ℕ, ◌+◌, ◌≤◌, List, [], ◌∷◌, ◌++◌, length, map, min, Option, Some, None, append_assoc}
+use Rattle.std.proofs.Common.{ap, arith, refl, subst, sym, ◌∙◌}
 use Rattle.std.proofs.lemmas.List.{map-append}
 use Rattle.std.proofs.lemmas.List.Elements.{filter_map-append}
 use Rattle.std.specs.Option.{option_map, option_to_list}
@@ -11,8 +11,7 @@ use Rattle.markdown.specs.OptionWords.{commonmark, source_as}
 use Rattle.markdown.specs.ReadingWords.{GaveRest, IsPlacedOf, OffsetIter, Parser, Ranged, ReadsText, elements}
 use Rattle.markdown.specs.ReadingWords.{offset_parser, parser_callback, questions_of, viewed}
 use Rattle.markdown_callers.specs.LinkChecker.{CountsQuestion, CountsQuestions, event_target, greatest_count}
-use Rattle.markdown_callers.specs.LinkChecker.{link_target}
-use Rattle.markdown_callers.specs.LinkChecker.{targets_of}
+use Rattle.markdown_callers.specs.LinkChecker.{link_target, targets_of}
 use Rattle.markdown_callers.proofs.TextReadingLemmas.{are_questions}
 use Rattle.markdown_callers.specs.declared.link_checker.FoundLink.{FoundLink}
 use Rattle.markdown_callers.specs.declared.link_checker.UndefinedLabels.{UndefinedLabels}

@@ -6,10 +6,9 @@ use Rattle.std.specs.declared.ops.Range.{Range}
 use Rattle.markdown.specs.DefsWords.{Answer, Answers, Asks, Question}
 use Rattle.markdown.specs.EventWords.{Event}
 use Rattle.markdown.specs.OptionWords.{Source, commonmark, source_as}
-use Rattle.markdown.specs.ReadingWords.{AreOf, GaveRest, IsPlacedOf, OffsetIter, Parser, Placed, Ranged}
-use Rattle.markdown.specs.ReadingWords.{ReadsText}
-use Rattle.markdown.specs.ReadingWords.{elements, events_of, offset_parser, parser_callback, parser_text}
-use Rattle.markdown.specs.ReadingWords.{questions_of, ranged, reading_of_text, viewed}
+use Rattle.markdown.specs.ReadingWords.{AreOf, GaveRest, IsPlacedOf, OffsetIter, Parser, Placed, Ranged, ReadsText}
+use Rattle.markdown.specs.ReadingWords.{elements, events_of, offset_parser, parser_callback, parser_text, questions_of}
+use Rattle.markdown.specs.ReadingWords.{ranged, reading_of_text, viewed}
 use Rattle.markdown_callers.specs.TextReading.{placed_events, questions_in}
 
 -- the views of events are those of the reading's events

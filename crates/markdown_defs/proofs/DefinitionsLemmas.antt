@@ -1,7 +1,6 @@
 -- Laws of the definitions that can be found: they give the same look-ups as all definitions, and no key finds two.
 use Rattle.std.proofs.Common.{◌≡◌, ℕ, List, [], ◌∷◌, ◌++◌, true, false, cond, Some, get_or, sym, ◌∙◌, ap, arith}
-use Rattle.std.proofs.Common.{is_some, inl, inr}
-use Rattle.std.proofs.Common.{append_assoc}
+use Rattle.std.proofs.Common.{is_some, inl, inr, append_assoc}
 use Rattle.std.specs.Option.{option_map}
 use Rattle.std.specs.List.{fold, AllPairs}
 use Rattle.std.proofs.lemmas.Bool.{cases_Bool}

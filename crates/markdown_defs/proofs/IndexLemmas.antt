@@ -1,7 +1,6 @@
 -- An index from foldings in UTF-8 to the positions of definitions: what it contains for a key, and how it grows.
 use Rattle.std.proofs.Common.{◌≡◌, ℕ, ◌+◌, ◌-◌, ◌<◌, List, [], ◌∷◌, ◌++◌, true, false, cond, Option, Some, None, length}
-use Rattle.std.proofs.Common.{get_or}
-use Rattle.std.proofs.Common.{encode_utf8_all, refl, sym, ◌∙◌, ap, arith, find, is_some, inl, inr}
+use Rattle.std.proofs.Common.{get_or, encode_utf8_all, refl, sym, ◌∙◌, ap, arith, find, is_some, inl, inr}
 use Rattle.std.specs.Option.{option_map}
 use Rattle.std.specs.Str.{bytes_eq}
 use Rattle.std.proofs.lemmas.Bool.{cases_Bool, false_from_ne_true}

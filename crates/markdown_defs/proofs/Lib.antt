@@ -5,3 +5,4 @@ pub mod FoldingLemmas
 pub mod IndexLemmas
 pub mod LookUpLawsLemmas
 pub mod PlaceLemmas
+pub mod CallbackLemmas

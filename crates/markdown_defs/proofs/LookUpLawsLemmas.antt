@@ -13,8 +13,7 @@ use Rattle.markdown_defs.specs.Definitions.{Labelled, has_folding, first_at, fin
 use Rattle.markdown_defs.specs.Folding.{case_folding, is_match}
 use Rattle.markdown_defs.specs.FootnoteCounts.{unused, unused_at}
 use Rattle.markdown_defs.specs.LookUpLaws.{NoneMatches, IsFirstMatch, FindsFirstMatch, MatchingKeysAgree, TestsMatching}
-use Rattle.markdown_defs.specs.LookUpLaws.{IsAmongNames}
-use Rattle.markdown_defs.specs.LookUpLaws.{FindsNamed, MatchingNamesAgree, Matches}
+use Rattle.markdown_defs.specs.LookUpLaws.{IsAmongNames, FindsNamed, MatchingNamesAgree, Matches}
 
 -- foldings are equal where texts match
 pub folding_of_match : (a b : List ℕ) → Matches a b → case_folding a ≡ case_folding b

@@ -1,7 +1,6 @@
 -- The first element that passes a test, and its place in a list.
 use Rattle.std.proofs.Common.{◌≡◌, ℕ, ◌+◌, ◌-◌, ◌<◌, ◌≤◌, List, [], ◌∷◌, ◌++◌, Bool, true, false, cond, Option, Some}
-use Rattle.std.proofs.Common.{None, length, get_or}
-use Rattle.std.proofs.Common.{refl, arith, find, zero, suc, is_some}
+use Rattle.std.proofs.Common.{None, length, get_or, refl, arith, find, zero, suc, is_some}
 use Rattle.std.specs.List.{position_from}
 
 -- with no place there is no element

@@ -4,6 +4,7 @@ use Rattle.std.proofs.Common.{◌≡◌, ℕ, zero, suc, ◌-◌, ◌<◌, Bool,
 use Rattle.std.proofs.Common.{subst, arith}
 use Rattle.std.specs.Prelude.{IfSome, not, ◌&&◌}
 use Rattle.markdown_base.specs.Forest.{Forest, nil, node}
+use Rattle.markdown_base.proofs.OptionLemmas.{if_both}
 use Rattle.markdown_document.specs.ChainRest.{joined_chains}
 use Rattle.markdown_document.specs.Document.{TreeNode, is_unresolved, as_text}
 use Rattle.markdown_document.specs.Setting.{Setting}
@@ -19,8 +20,7 @@ use Rattle.markdown_delims.specs.Pairing.{runs_paired}
 use Rattle.markdown_delims.proofs.KeepLemmas.{EachTree, EachFound, IsClosedTree, IsClosed, Holds, holds-on}
 use Rattle.markdown_delims.proofs.KeepLemmas.{nearest-keeps, found-keeps, makes-closed, readable}
 use Rattle.markdown_delims.proofs.LayerLawLemmas.{two-closed}
-use Rattle.markdown_delims.proofs.StepLawLemmas.{Any, StaysTrueOf, found-if, later, of_any, of_both, reads-stay-of}
-use Rattle.markdown_delims.proofs.StepLawLemmas.{run-long}
+use Rattle.markdown_delims.proofs.StepLawLemmas.{Any, StaysTrueOf, found-if, later, of_any, reads-stay-of, run-long}
 
 module _ {A : Type 0} where
   -- characters before a chain, the first one first
@@ -204,7 +204,7 @@ module _ {I A : Type 0} (s : Setting) (p : I → Forest (TreeNode A) → Type 0)
           subst (p i) (sym (left_before closer vs rs rest)) h.0,
           closed.left closer vs rs rest any h.1,
         );
-        found = λ closer vs rs rest can any h. of_both (nearest_opener closer rs nil)
+        found = λ closer vs rs rest can any h. if_both (nearest_opener closer rs nil)
             (λ f. p i (read_trees f.before (texts_before f.characters (joined_chains f.inside (forward vs rest)))))
             (EachFound IsClosed IsClosedTree)
             (λ f. let l : Layers A = layers s f.run.delimiter f.characters vs f.inside in

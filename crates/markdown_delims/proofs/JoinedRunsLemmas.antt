@@ -7,6 +7,7 @@ use Rattle.std.specs.Prelude.{⊤}
 use Rattle.std.specs.List.{AllByRecursion}
 use Rattle.std.specs.declared.ops.Range.{Range}
 use Rattle.markdown_base.specs.Forest.{Forest, nil, node}
+use Rattle.markdown_base.proofs.OptionLemmas.{if_both}
 use Rattle.markdown_document.specs.Document.{Shape, TreeNode, is_unresolved}
 use Rattle.markdown_document.specs.TreeNodes.{annotated}
 use Rattle.markdown_document.specs.Setting.{Setting}
@@ -25,7 +26,7 @@ use Rattle.markdown_delims.proofs.KeepLemmas.{EachTree, EachReadOf, FoundOf, Are
 use Rattle.markdown_delims.proofs.KeepLemmas.{nearest-keeps-of, opened-keeps, still-keeps, trees-keep, turned-all}
 use Rattle.markdown_delims.proofs.LawLemmas.{joins-law}
 use Rattle.markdown_delims.proofs.MissedLawLemmas.{quotes_told}
-use Rattle.markdown_delims.proofs.StepLawLemmas.{StaysTrueOf, later, of_both, reads-stay-of}
+use Rattle.markdown_delims.proofs.StepLawLemmas.{StaysTrueOf, later, reads-stay-of}
 
 abbrev MaybeRun : Type 0
 MaybeRun = Option RunAt
@@ -231,7 +232,7 @@ module _ (whole : Forest Character) where
       run = λ run a below after rs e h. run_holds run a below after rs e h;
       dropped = λ d vs rs rest h. (dropped-keep IsOpen IsTree d rs h.0, h.1, h.2);
       left = λ closer vs rs rest a h. (left_join closer vs rs a h.0, h.1, h.2);
-      found = λ closer vs rs rest c a h. of_both (nearest_opener closer rs nil)
+      found = λ closer vs rs rest c a h. if_both (nearest_opener closer rs nil)
           (λ f. may_pair f.run closer ≡ true) (FoundOf IsOpen IsTree)
           (λ f. AreOf closer (layers s f.run.delimiter f.characters vs f.inside).closing
           × HoldsOf (layers s f.run.delimiter f.characters vs f.inside).closing

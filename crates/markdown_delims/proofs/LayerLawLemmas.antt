@@ -3,8 +3,7 @@
 use Rattle.std.proofs.Common.{◌≡◌, ℕ, Bool, true, false, List, refl}
 use Rattle.std.specs.Prelude.{◌&&◌, if◌then◌else◌}
 use Rattle.markdown_base.specs.Event.{TagView}
-use Rattle.markdown_document.specs.Document.{Shape, plain, unresolved, is_unresolved}
-use Rattle.markdown_document.specs.Document.{text_over}
+use Rattle.markdown_document.specs.Document.{Shape, plain, unresolved, is_unresolved, text_over}
 use Rattle.markdown_document.specs.TreeNodes.{GivesFirst, is_plain}
 use Rattle.markdown_delims.specs.declared.extensions.Extensions.{Extensions}
 use Rattle.markdown_delims.specs.declared.quotes.Kind.{Kind}

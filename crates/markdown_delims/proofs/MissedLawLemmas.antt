@@ -4,6 +4,7 @@ use Rattle.std.proofs.Common.{◌≡◌, ℕ, zero, suc, ◌-◌, ◌<◌, Bool,
 use Rattle.std.proofs.Common.{refl, ap, sym, ◌∙◌, subst, arith, inl, inr, map, min, ◌+◌, ◌≤◌}
 use Rattle.std.specs.Prelude.{⊤, ◌⊎◌, IfSome, IfNone, not, ◌&&◌, ◌||◌, slice_range, slice_index}
 use Rattle.std.specs.List.{AllByRecursion}
+use Rattle.std.proofs.lemmas.Bool.{true≢false}
 use Rattle.markdown_base.specs.Forest.{Forest, nil, node}
 use Rattle.markdown_base.proofs.ForestLemmas.{relabelled-relabelled}
 use Rattle.markdown_document.specs.Document.{Shape, leaf, backslash_break, unresolved, TreeNode, is_unresolved, shaped}
@@ -24,8 +25,8 @@ use Rattle.markdown_delims.specs.Quotes.{first_turn, quotes_after, with_quotes}
 use Rattle.markdown_delims.specs.declared.quotes.Kind.TheVariants as kind
 use Rattle.markdown_base.specs.declared.item.ItemBody.TheVariants as body
 use Rattle.markdown_delims.specs.PairingLaws.{is_tilde_or_caret, NonePairs, RunAt, run_at, further, no_run, with_runs}
-use Rattle.markdown_delims.specs.PairingLaws.{run_if_text, kept_run, DoNotPair}
-use Rattle.markdown_delims.specs.PairingLaws.{NonePairsLater, NoneMissed, without_notes, NoneMissedLaw}
+use Rattle.markdown_delims.specs.PairingLaws.{run_if_text, kept_run, DoNotPair, NonePairsLater, NoneMissed}
+use Rattle.markdown_delims.specs.PairingLaws.{without_notes, NoneMissedLaw}
 use Rattle.markdown_delims.proofs.KeepLemmas.{turned-all}
 use Rattle.markdown_delims.proofs.LawLemmas.{misses-law, tag-law}
 use Rattle.markdown_delims.proofs.LayerLawLemmas.{turn-made}
@@ -43,9 +44,6 @@ abbrev with_run : {A : Type 0} → Setting → MaybeRun → ℕ → TreeNode A �
     → Forest Character
 with_run s r more a below after = node (annotate (λ _. r) a) (annotated no_run below) (with_runs s more r after)
 
-differ : true ≡ false → ⊥
-differ e = cc
-
 none_later : (r : MaybeRun) → DoNotPair r None
 none_later None = tt
 none_later (Some p) = tt
@@ -55,7 +53,7 @@ same_run p n star opens closes = absurd (n refl)
 
 cannot_close : (p : RunAt) → p.run.can_close ≡ false → (r : MaybeRun) → DoNotPair r (Some p)
 cannot_close p e None = tt
-cannot_close p e (Some q) = λ n star opens closes. absurd (differ (sym closes ∙ e))
+cannot_close p e (Some q) = λ n star opens closes. absurd (true≢false (sym closes ∙ e))
 
 text_first : (shape : Shape) (r k : MaybeRun) → DoNotPair r k → DoNotPair (run_if_text shape r) k
 text_first (leaf e origins) r k h = h
@@ -80,7 +78,7 @@ shut_text (leaf e origins) r h = h
 shut_text other r h = tt
 
 tilde_shut : (p : RunAt) → is_tilde_or_caret p.run.delimiter ≡ true → Shut (Some p)
-tilde_shut p e star opens = differ (sym e ∙ star)
+tilde_shut p e star opens = true≢false (sym e ∙ star)
 
 -- a run that is later than what was read
 abbrev NoneEarlier : MaybeRun → List (Read MaybeRun) → Type 0
@@ -224,7 +222,7 @@ open_apart : (dropped : Bool) (run closer : Run) (q p : RunAt) → q.run ≡ run
     → (dropped ≡ true → is_tilde_or_caret run.delimiter ≡ true)
     → (dropped ≡ false → may_pair run closer ≡ false) → DoNotPair (Some q) (Some p)
 open_apart true run closer q p e g d m n star opens closes =
-    absurd (differ (sym (d refl) ∙ ap (λ (r : Run). is_tilde_or_caret r.delimiter) (sym e) ∙ star))
+    absurd (true≢false (sym (d refl) ∙ ap (λ (r : Run). is_tilde_or_caret r.delimiter) (sym e) ∙ star))
 open_apart false run closer q p e g d m n star opens closes = ap (λ r. may_pair r p.run) e ∙ ap (may_pair run) g
     ∙ m refl
 
@@ -293,7 +291,7 @@ module _ (p : RunAt) where
       → Fine rs
       → NoneEarlier (Some p) rs → Fine (waiting false run xs ∷ rs)
   still_open run xs rs g a s h e
-      = (λ d. absurd (differ (sym d)), record { at = p; same = g; all = a; some = s; earlier = e }, h)
+      = (λ d. absurd (true≢false (sym d)), record { at = p; same = g; all = a; some = s; earlier = e }, h)
 
   opened_fine : (b : Bool) (run : Run) (xs : List Character) (rs : List (Read MaybeRun)) → run.can_open ≡ b → p.run
       ≡ run → AreOf p xs
@@ -301,7 +299,7 @@ module _ (p : RunAt) where
       → Fine (opened_if b run xs rs)
   opened_fine true run xs rs c g a s h e = still_open run xs rs g a s h e
   opened_fine false run xs rs c g a s h e
-      = (done_fine xs rs a (λ star opens. differ (sym opens ∙ ap (λ (r : Run). r.can_open) g ∙ c)) h
+      = (done_fine xs rs a (λ star opens. true≢false (sym opens ∙ ap (λ (r : Run). r.can_open) g ∙ c)) h
       e).0
 
   left_fine : (run : Run) (vs : List Character) (rs : List (Read MaybeRun)) → p.run ≡ run → AreOf p vs → HasSome vs

@@ -10,8 +10,8 @@ use Rattle.markdown_base.specs.BlockTree.{Numbered, numbered, item_at}
 use Rattle.markdown_base.specs.Forest.{Forest, nil, node, relabelled}
 use Rattle.markdown_base.specs.Item.{is_open}
 use Rattle.markdown_base.specs.WellFormed.{RunCharacter, run_character, is_delimiter, RunGoesOn}
-use Rattle.markdown_document.specs.Document.{Shape, unresolved, TreeNode, shaped}
-use Rattle.markdown_document.specs.Document.{is_unresolved, shape_of, block_of, part_of}
+use Rattle.markdown_document.specs.Document.{Shape, unresolved, TreeNode, shaped, is_unresolved, shape_of, block_of}
+use Rattle.markdown_document.specs.Document.{part_of}
 use Rattle.markdown_document.specs.Setting.{Setting}
 use Rattle.markdown_document.specs.Tables.{Tables}
 use Rattle.markdown_document.specs.Waiting.{waits_for_pairing}
@@ -26,8 +26,8 @@ use Rattle.markdown_delims.specs.MayPair.{delimiter_of}
 use Rattle.markdown_delims.specs.PairedChain.{WaitsForPairing}
 use Rattle.markdown_delims.specs.Pairing.{Read, done_read, read_trees, trees_done, reads_from, runs_paired}
 use Rattle.markdown_delims.specs.PairingFinds.{finds_from}
-use Rattle.markdown_delims.specs.Quotes.{kind_of_shape, is_closed_later, is_end, QuoteTurn}
-use Rattle.markdown_delims.specs.Quotes.{turn_by, first_turn, quotes_after}
+use Rattle.markdown_delims.specs.Quotes.{kind_of_shape, is_closed_later, is_end, QuoteTurn, turn_by, first_turn}
+use Rattle.markdown_delims.specs.Quotes.{quotes_after}
 use Rattle.markdown_delims.specs.RunReading.{StandsWhole, HasWholeRuns, counts_one, delimiters_of}
 use Rattle.markdown_delims.proofs.ChainLawLemmas.{nothing_follows, trees_before}
 use Rattle.markdown_delims.proofs.LayerLawLemmas.{turn-gives}
@@ -134,7 +134,7 @@ break_closed (unresolved (body.MaybeSmartQuote quote x y)) e = absurd (quote_bre
 break_closed (unresolved other) e = cc
 break_closed other e = refl
 
-one_at_most : (b : Bool) → one_if b ≤ 1
+pub one_at_most : (b : Bool) → one_if b ≤ 1
 one_at_most true = omega arith
 one_at_most false = omega arith
 

@@ -4,6 +4,7 @@ use Rattle.std.proofs.Common.{take, get_or, Some, None, inl, inr, refl, ap, sym,
 use Rattle.std.specs.Prelude.{not, ◌&&◌, ◌||◌, if◌then◌else◌}
 use Rattle.std.proofs.lemmas.List.{take_more, length-take-le, get_or-take}
 use Rattle.std.proofs.lemmas.Bool.{cases_Bool, lt-ltb, le-ltb, cases_lt, and_parts}
+use Rattle.std.proofs.Math.Bool.{or-true}
 use Rattle.markdown_delims.specs.declared.run.Delimiter.{Delimiter}
 use Rattle.markdown_delims.specs.declared.run.Delimiter.TheVariants.{Star, Underscore, Tilde, Caret}
 use Rattle.markdown_delims.specs.declared.run.Run.{Run}
@@ -85,13 +86,9 @@ or_false : (b : Bool) → b ≡ (b || false)
 or_false true = refl
 or_false false = refl
 
-or_true : (b : Bool) → (b || true) ≡ true
-or_true true = refl
-or_true false = refl
-
 -- a place below a bound that a failed search may have raised
 raised_test : (raises : Bool) (n t j : ℕ) → j < n → ltb j (if raises then n else t) ≡ (ltb j t || raises)
-raised_test true n t j l = lt-ltb j n l ∙ sym (or_true (ltb j t))
+raised_test true n t j l = lt-ltb j n l ∙ sym (or-true (ltb j t))
 raised_test false n t j l = or_false (ltb j t)
 
 -- two characters that test as one are one

@@ -1,6 +1,6 @@
 -- What each step in reading a chain keeps, reading the chain keeps.
-use Rattle.std.proofs.Common.{◌≡◌, ℕ, zero, suc, ◌-◌, ◌<◌, Bool, true, false, List, [], ◌∷◌, map, length, Option}
-use Rattle.std.proofs.Common.{Some, None, refl, subst, arith}
+use Rattle.std.proofs.Common.{◌≡◌, ℕ, zero, suc, ◌-◌, ◌<◌, Bool, true, false, List, [], ◌∷◌, map, length, Option, Some}
+use Rattle.std.proofs.Common.{None, refl, subst, arith}
 use Rattle.std.specs.Prelude.{⊤, IfSome}
 use Rattle.std.proofs.lemmas.Option.{IfSome_then}
 use Rattle.markdown_base.specs.Forest.{Forest, nil, node}
@@ -12,8 +12,8 @@ use Rattle.markdown_delims.specs.declared.run.Delimiter.{Delimiter}
 use Rattle.markdown_delims.specs.declared.run.Run.{Run}
 use Rattle.markdown_delims.specs.Layers.{run_of_shape, run_of}
 use Rattle.markdown_delims.specs.Pairing.{Read, done_read, FoundOpener, found_if, nearest_opener, drop_read, layers}
-use Rattle.markdown_delims.specs.Pairing.{left_over, after_layers}
-use Rattle.markdown_delims.specs.Pairing.{after_search, closed_by, run_read, first_texts, after_tree, reads_from}
+use Rattle.markdown_delims.specs.Pairing.{left_over, after_layers, after_search, closed_by, run_read, first_texts}
+use Rattle.markdown_delims.specs.Pairing.{after_tree, reads_from}
 
 -- a chain without its first trees
 abbrev pub later : {A : Type 0} → ℕ → Forest (TreeNode A) → Forest (TreeNode A)
@@ -73,11 +73,6 @@ pub record StaysTrueOf {A : Type 0} (s : Setting) (g : Run → List (TreeNode A)
       → IfSome (nearest_opener closer rs nil) (λ f. g closer (layers s f.run.delimiter f.characters vs f.inside).closing
       × i (layers s f.run.delimiter f.characters vs f.inside).closing
       (after_layers f (layers s f.run.delimiter f.characters vs f.inside)) rest)
-
-pub of_both : {X : Type 0} (o : Option X) (P Q R : X → Type 0) → IfSome o P → IfSome o Q
-    → ((x : X) → P x → Q x → R x) → IfSome o R
-of_both None P Q R p q f = tt
-of_both (Some x) P Q R p q f = f x p q
 
 -- a run has a character
 pub some-long : (shape : Shape) (d : Option Delimiter) → IfSome (run_of_shape shape d) (λ run. 0 < run.length)

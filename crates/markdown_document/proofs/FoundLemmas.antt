@@ -1,16 +1,14 @@
 -- A forest that is spelled, and in which no number occurs twice, is the one that is found.
-use Rattle.std.proofs.Common.{◌≡◌, ℕ, zero, suc, ◌+◌, ◌<◌, ◌≤◌, Bool, true, false, ◌||◌, eqb, List, [], ◌∷◌, ◌++◌}
-use Rattle.std.proofs.Common.{length, Option, ◌⊎◌, inl}
-use Rattle.std.proofs.Common.{inr, ⊎_elim, refl, sym, ap, subst, arith}
+use Rattle.std.proofs.Common.{◌≡◌, ℕ, zero, suc, ◌+◌, ◌<◌, ◌≤◌, true, false, eqb, List, [], ◌∷◌, ◌++◌, length, Option}
+use Rattle.std.proofs.Common.{⊎_elim, refl, sym, ap, subst, arith}
 use Rattle.std.specs.Prelude.{nat_eq}
 use Rattle.std.specs.List.{AllByRecursion, IsDistinct, list_any}
-use Rattle.std.proofs.lemmas.Bool.{cases_eq, eqb-true, eqb-false, ne_eqb}
-use Rattle.std.proofs.lemmas.List.{length-append}
+use Rattle.std.proofs.lemmas.Bool.{or_cases, cases_eq, eqb-true, eqb-false, ne_eqb}
 use Rattle.std.proofs.lemmas.List.Folds.{list_any-append}
 use Rattle.std.proofs.lemmas.Map.Steps.{length-le_from_distinct_below}
 use Rattle.markdown_base.specs.ArenaForest.{Links, Spells, forest_at}
 use Rattle.markdown_base.specs.Forest.{Forest, nil, node, preorder}
-use Rattle.markdown_base.proofs.ArenaForestLemmas.{height, forest_at-fits}
+use Rattle.markdown_base.proofs.ArenaForestLemmas.{height-preorder, forest_at-fits}
 use Rattle.markdown_document.specs.Totals.{total, same}
 use Rattle.markdown_document.proofs.TablesLemmas.{same-refl}
 
@@ -73,11 +71,6 @@ distinct_listed (x ∷ xs) h = (
   distinct_listed xs (λ n. let a = h n in omega arith),
 )
 
--- one of two tests passes
-either : (a b : Bool) → (a || b) ≡ true → (a ≡ true) ⊎ (b ≡ true)
-either true b h = inl refl
-either false b h = inr h
-
 -- what the links lead to is a node
 spelled_within : (k : Links) (l : Option ℕ) (f : Forest ℕ) → Spells k l f → (q : ℕ) → list_any (eqb q) (preorder f)
     ≡ true → q < k.size
@@ -88,13 +81,9 @@ spelled_within k l (node ix below after) s q h =
     (λ deeper. ⊎_elim
     (λ first. spelled_within k (k.child ix) below s.2 q first)
     (λ second. spelled_within k (k.next ix) after s.3 q second)
-    (either (list_any (eqb q) (preorder below)) (list_any (eqb q) (preorder after))
+    (or_cases (list_any (eqb q) (preorder below)) (list_any (eqb q) (preorder after))
     (rw (list_any-append (eqb q) (preorder below) (preorder after)) at deeper)))
-    (either (eqb q ix) (list_any (eqb q) (preorder below ++ preorder after)) h)
-
-height_small : (f : Forest ℕ) → height f ≤ length (preorder f)
-height_small nil = omega arith
-height_small (node ix below after) = simp length-append (omega (arith, height_small below, height_small after))
+    (or_cases (eqb q ix) (list_any (eqb q) (preorder below ++ preorder after)) h)
 
 -- so there are no more of them than nodes
 pub few : (k : Links) (l : Option ℕ) (f : Forest ℕ) → Spells k l f → ((n : ℕ) → total (same n) f ≤ 1)
@@ -105,4 +94,4 @@ few k l f s once =
 
 pub found : (k : Links) (l : Option ℕ) (f : Forest ℕ) → Spells k l f → ((n : ℕ) → total (same n) f ≤ 1) → forest_at k l
     ≡ f
-found k l f s once = forest_at-fits k l f s (omega (arith, few k l f s once, height_small f))
+found k l f s once = forest_at-fits k l f s (omega (arith, few k l f s once, height-preorder f))

@@ -3,7 +3,7 @@ use Rattle.markdown_base.specs.declared.item.ItemBody.TheVariants as body
 use Rattle.std.proofs.Common.{◌≡◌, ℕ, ◌<◌, ◌≤◌, List, Option, length, refl, ap, arith}
 use Rattle.std.specs.Prelude.{slice_range}
 use Rattle.markdown_base.specs.Arena.{child_of, sibling_of}
-use Rattle.markdown_base.specs.ArenaForest.{Links, links_of, Spells, forest_at}
+use Rattle.markdown_base.specs.ArenaForest.{links_of, Spells, forest_at}
 use Rattle.markdown_base.specs.ArenaWalk.{Reaches}
 use Rattle.std.specs.Option.{option_map}
 use Rattle.markdown_base.specs.BlockTree.{item_at, numbered}
@@ -12,7 +12,7 @@ use Rattle.markdown_base.specs.Item.{range_of}
 use Rattle.markdown_base.specs.declared.item.Item.{Item}
 use Rattle.markdown_base.specs.declared.item.ItemBody.{ItemBody}
 use Rattle.markdown_base.specs.declared.node.Node.{Node}
-use Rattle.markdown_base.proofs.ArenaForestLemmas.{height, height-followed, forest_at-fits}
+use Rattle.markdown_base.proofs.ArenaForestLemmas.{forest_at-height, forest_at-fits}
 use Rattle.markdown_document.specs.Places.{tree_node_at, trees_from, origin_start}
 use Rattle.markdown_document.specs.PlacedNodes.{IsSameAt, HasSlices, IsPlaced}
 use Rattle.markdown_document.specs.Totals.{total, same, weight_at}
@@ -201,10 +201,6 @@ pub record Framed (source : List ℕ) (tables tables' : Tables) (nodes nodes' : 
     pub weight : total (weight_at nodes') (forest_at (links_of nodes') l)
         ≡ total (weight_at nodes) (forest_at (links_of nodes) l)
 
-height_at : (k : Links) (l : Option ℕ) → height (forest_at k l) ≤ k.size
-unfolding forest_at
-height_at k l = height-followed k.size k l
-
 pub framed : (source : List ℕ) (tables tables' : Tables) (nodes nodes' : List (Node Item)) (l : Option ℕ)
     → length nodes ≤ length nodes'
     → IsNoShorter tables tables'
@@ -215,7 +211,7 @@ framed source tables tables' nodes nodes' l z y r h =
     let f = forest_at (links_of nodes) l in
     let s : Spells (links_of nodes') l f = spells_same tables tables' nodes nodes' l f z r.spelled h in
     let e : forest_at (links_of nodes') l ≡ f = forest_at-fits (links_of nodes') l f s
-    (omega (arith, height_at (links_of nodes) l, z)) in
+    (omega (arith, forest_at-height (links_of nodes) l, z)) in
     record {
       forest = e;
       reaches = record {

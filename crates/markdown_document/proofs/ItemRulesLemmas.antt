@@ -1,16 +1,12 @@
 -- The rules of items where an item is not open, and where what follows it was not changed.
-use Rattle.std.proofs.Common.{◌≡◌, ℕ, true, false, List, Option, Some, None, refl}
+use Rattle.std.proofs.Common.{◌≡◌, ℕ, false, List, Option}
 use Rattle.markdown_base.specs.BlockTree.{Numbered}
 use Rattle.markdown_base.specs.Item.{is_open}
-use Rattle.markdown_base.specs.WellFormed.{StandsOverMarkup, run_character, source_of}
+use Rattle.markdown_base.specs.WellFormed.{StandsOverMarkup, source_of}
 use Rattle.markdown_base.specs.declared.item.ItemBody.{ItemBody}
 use Rattle.markdown_base.specs.declared.item.ItemBody.TheVariants as body
+use Rattle.markdown_base.proofs.WellFormedLemmas.{closed_no_run}
 use Rattle.markdown_document.specs.ItemRules.{ComesBefore, KeepsItemRules}
-
--- what is not open is not a character of a delimiter run, and needs no markup
-run-closed : (b : ItemBody) → is_open b ≡ false → run_character b ≡ None
-run-closed (body.MaybeEmphasis count opens closes) h = cc h
-run-closed other h = refl
 
 markup-closed : (source : List ℕ) (b : ItemBody) → is_open b ≡ false → StandsOverMarkup source b
 markup-closed source (body.MaybeMath opens closes context) h = absurd (cc h)
@@ -29,6 +25,6 @@ pub keeps-closed : (text : List ℕ) (a : Numbered) (child : Option ℕ) (next :
 keeps-closed text a child next h before = record {
   in_order = before;
   markup_is_there = markup-closed (source_of text a.item) a.item.body h;
-  runs_are_whole = rw (run-closed a.item.body h) tt;
+  runs_are_whole = rw (closed_no_run a.item.body h) tt;
   childless = λ e. absurd (cc (e, h));
 }

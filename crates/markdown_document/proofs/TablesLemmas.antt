@@ -1,12 +1,12 @@
 -- Entries of tables: those that are named are there, and stay where tables grow.
 use Rattle.std.proofs.Common.{◌≡◌, ℕ, zero, suc, ◌<◌, ◌≤◌, List, [], ◌∷◌, ◌++◌, length, Option, Some, None, refl, ◌∙◌}
-use Rattle.std.proofs.Common.{arith, append-nil}
-use Rattle.std.proofs.Common.{append_assoc}
+use Rattle.std.proofs.Common.{arith, append-nil, append_assoc}
 use Rattle.std.specs.Prelude.{IfSome}
 use Rattle.std.proofs.lemmas.List.{length-append}
 use Rattle.markdown_base.specs.Item.{text_named, alignments_named}
 use Rattle.markdown_base.specs.declared.cow_str.CowStr.{CowStr}
 use Rattle.markdown_base.specs.declared.item.ItemBody.{ItemBody}
+use Rattle.markdown_base.proofs.ArenaLemmas.{below_more}
 use Rattle.markdown_defs.specs.Allocations.{LinkParts}
 use Rattle.markdown_document.specs.Origins.{origin_at}
 use Rattle.markdown_document.specs.Tables.{Tables, text_at, link_at}
@@ -25,7 +25,7 @@ same-apart zero m l = absurd (omega (arith, l))
 same-apart (suc n) zero l = refl
 same-apart (suc n) (suc m) l = same-apart n m (omega (arith, l))
 
-same_once : (n m : ℕ) → same n m ≤ 1
+pub same_once : (n m : ℕ) → same n m ≤ 1
 same_once zero zero = omega arith
 same_once zero (suc m) = omega arith
 same_once (suc n) zero = omega arith
@@ -133,17 +133,12 @@ grown-twice a b c p q = record {
 pub longer-trans : (a b c : Tables) → IsNoShorter a b → IsNoShorter b c → IsNoShorter a c
 longer-trans a b c p q = record { sizes = λ n. omega (arith, p.sizes n, q.sizes n); headings = q.headings ∙ p.headings }
 
--- what is named in tables is named in longer ones
-more_entries : (o : Option ℕ) (a b : ℕ) → a ≤ b → IfSome o (λ n. n < a) → IfSome o (λ n. n < b)
-more_entries None a b l h = h
-more_entries (Some n) a b l h = omega (arith, l, h)
-
 pub entries-longer : (tables tables' : Tables) (b : ItemBody) → IsNoShorter tables tables' → NamesEntries tables b
     → NamesEntries tables' b
 entries-longer tables tables' b y h = record {
-  text = more_entries (text_named b) (length tables.cows) (length tables'.cows) (y.sizes (some_text 0)) h.text;
-  link = more_entries (link_named b) (length tables.links) (length tables'.links) (y.sizes (some_link 0)) h.link;
-  alignments = more_entries (alignments_named b) (length tables.alignments) (length tables'.alignments)
+  text = below_more (text_named b) (length tables.cows) (length tables'.cows) (y.sizes (some_text 0)) h.text;
+  link = below_more (link_named b) (length tables.links) (length tables'.links) (y.sizes (some_link 0)) h.link;
+  alignments = below_more (alignments_named b) (length tables.alignments) (length tables'.alignments)
       (y.sizes (some_alignments 0))
       h.alignments;
   attributes = rw y.headings h.attributes;

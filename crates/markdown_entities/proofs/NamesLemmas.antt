@@ -1,8 +1,7 @@
 -- A name between an ampersand and a semicolon, as the code reads it.
-use Rattle.std.proofs.Common.{◌≡◌, ℕ, zero, suc, ◌+◌, ◌≤◌, Bool, true, false, ◌&&◌, nat_eq, List, [], ◌∷◌}
-use Rattle.std.proofs.Common.{◌++◌, length, take, drop, min, codes, cond, refl, sym, ap, ◌∙◌, arith, ap₂}
-use Rattle.std.proofs.Common.{one-add, true≢false, take-append-drop, length-append, length-drop, ◌-◌}
-use Rattle.std.proofs.Common.{le_of_suc-le-suc, not-suc-le-zero}
+use Rattle.std.proofs.Common.{◌≡◌, ℕ, zero, suc, ◌+◌, ◌≤◌, Bool, true, false, ◌&&◌, nat_eq, List, [], ◌∷◌, ◌++◌, length}
+use Rattle.std.proofs.Common.{take, drop, min, codes, cond, refl, sym, ap, ◌∙◌, arith, ap₂, one-add, true≢false}
+use Rattle.std.proofs.Common.{take-append-drop, length-append, length-drop, ◌-◌, le_of_suc-le-suc, not-suc-le-zero}
 use Rattle.std.proofs.Math.Seq.{take-length}
 use Rattle.std.proofs.lemmas.Bool.{and_parts}
 use Rattle.std.proofs.lemmas.Bool.Decides.{Decides-eqb}

@@ -1,8 +1,7 @@
 -- The rows of a text, and the rows of the table with a name.
-use Rattle.std.proofs.Common.{◌≡◌, ◌≢◌, ℕ, zero, suc, ◌+◌, ◌<◌, Bool, true, false, nat_eq}
-use Rattle.std.proofs.Common.{nat_le, List, [], ◌∷◌, ◌++◌, length, get_or, Option, Some, None, refl, sym}
-use Rattle.std.proofs.Common.{ap, ◌∙◌, true≢false, le_of_suc-le-suc, not-suc-le-zero, add-suc}
-use Rattle.std.proofs.Common.{append_assoc, leb-true, ap₂, drop, length-append, cond}
+use Rattle.std.proofs.Common.{◌≡◌, ◌≢◌, ℕ, zero, suc, ◌+◌, ◌<◌, Bool, true, false, nat_eq, nat_le, List, [], ◌∷◌, ◌++◌}
+use Rattle.std.proofs.Common.{length, get_or, Option, Some, None, refl, sym, ap, ◌∙◌, true≢false, le_of_suc-le-suc}
+use Rattle.std.proofs.Common.{not-suc-le-zero, add-suc, append_assoc, leb-true, ap₂, drop, length-append, cond}
 use Rattle.std.proofs.Common.{encode_utf8_all, option_map}
 use Rattle.std.specs.Prelude.{bytes_eq}
 use Rattle.std.proofs.lemmas.Bool.{and_parts}
@@ -10,8 +9,8 @@ use Rattle.std.proofs.lemmas.Option.{same_Some}
 use Rattle.std.proofs.lemmas.Slice.Eq.{bytes_eq-Decides}
 use Rattle.std.specs.List.{list_all, starts_with}
 use Rattle.markdown_entities.specs.EntityRow.{EntityRow}
-use Rattle.markdown_entities.specs.EntitySteps.{is_name, BeginsWithName, BeginsWithNoName, named_in}
-use Rattle.markdown_entities.specs.EntitySteps.{characters_of, is_row, AreRows}
+use Rattle.markdown_entities.specs.EntitySteps.{is_name, BeginsWithName, BeginsWithNoName, named_in, characters_of}
+use Rattle.markdown_entities.specs.EntitySteps.{is_row, AreRows}
 use Rattle.markdown_entities.specs.NamedEntity.{as_written, first_written, in_utf8}
 use Rattle.markdown_entities.proofs.NamesLemmas.{begins_split, begins_with, same_names}
 

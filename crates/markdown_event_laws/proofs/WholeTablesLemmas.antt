@@ -6,17 +6,19 @@ use Rattle.std.specs.List.{list_any}
 use Rattle.std.proofs.Math.Bool.{or-true}
 use Rattle.std.specs.Prelude.{IsTrue, not, slice_range}
 use Rattle.std.specs.declared.ops.Range.{Range}
+use Rattle.std.proofs.lemmas.Bool.{and_parts}
 use Rattle.markdown_base.specs.BlockTree.{Numbered, tree_of}
-use Rattle.markdown_base.specs.Event.{EventView, TagView, end, heading, list, list_item, start, tag_end}
-use Rattle.markdown_base.specs.Event.{table, table_cell, table_head, table_row}
+use Rattle.markdown_base.specs.Event.{EventView, TagView, end, heading, list, list_item, start, tag_end, table}
+use Rattle.markdown_base.specs.Event.{table_cell, table_head, table_row}
 use Rattle.markdown_base.specs.Forest.{Each, Forest, nil, node, relabelled}
-use Rattle.markdown_base.specs.Item.{is_childless, is_inline, is_open}
+use Rattle.markdown_base.specs.Item.{is_inline, is_open}
 use Rattle.markdown_base.specs.WellFormed.{AllKeepRules, PartCounts, all_inline, counts_of, has_open}
 use Rattle.markdown_base.specs.declared.item.ItemBody.{ItemBody}
 use Rattle.markdown_base.specs.declared.item.ItemBody.TheVariants as body
 use Rattle.markdown_base.specs.declared.tag.TagEnd.{TagEnd}
 use Rattle.markdown_base.specs.declared.tag.TagEnd.TheVariants as closes
 use Rattle.markdown_base.specs.Source.{Source}
+use Rattle.markdown_base.proofs.WellFormedLemmas.{inline_childless}
 use Rattle.markdown_block_laws.proofs.TableLawsLemmas.{items_in_place, tables_in_place}
 use Rattle.markdown_block_laws.specs.ItemsInPlace.{ItemsInPlace, is_list}
 use Rattle.markdown_block_laws.specs.TaskLaws.{is_list_item}
@@ -202,29 +204,29 @@ module _ {A : Type 0} where
       → AreWhole ends false more → AreWhole ends starts (events_in below ++ more))
       → (AreInPlace awaited false after → AreWhole awaited false (events_in after ++ rest))
       → AreWhole awaited first (tree_events shape range (events_in below) (events_in after) ++ rest)
-  tree_whole (leaf e origins) range a below after awaited first rest both p i l =
-      rw p.0.0 (lone_whole e awaited (map (λ (e : Placed). e.0) (events_in after ++ rest)) both p.0.1
+  tree_whole (leaf e origins) range a below after awaited first rest and_parts p i l =
+      rw p.0.0 (lone_whole e awaited (map (λ (e : Placed). e.0) (events_in after ++ rest)) and_parts p.0.1
       (l p.1))
-  tree_whole (enclosed tag origins) range a below after awaited first rest both p i l =
+  tree_whole (enclosed tag origins) range a below after awaited first rest and_parts p i l =
       rw (p.0, append_assoc (events_in below) ((end (tag_end tag), range, []) ∷ events_in after) rest)
       (i (tag_end tag ∷ awaited) (starts_table (start tag)) ((end (tag_end tag), range, []) ∷ (events_in after ++ rest))
       p.1 (end_whole (tag_end tag) awaited (map (λ (e : Placed). e.0) (events_in after ++ rest)) (l p.2)))
-  tree_whole plain range a below after awaited first rest both p i l =
+  tree_whole plain range a below after awaited first rest and_parts p i l =
       rw (p.0.0, append_assoc (events_in below) (events_in after) rest)
       (i awaited false (events_in after ++ rest) p.1 (l p.2))
-  tree_whole backslash_break range a below after awaited first rest both p i l =
+  tree_whole backslash_break range a below after awaited first rest and_parts p i l =
       rw (p.0.0, p.0.1.lists, p.0.1.parts) (l p.1)
-  tree_whole (unresolved b) range a below after awaited first rest both p i l =
+  tree_whole (unresolved b) range a below after awaited first rest and_parts p i l =
       rw p.0.0 (l (without_placed after awaited p.0.1 p.1.2))
 
   events_whole : (f : Forest (TreeNode A)) (awaited : List TagEnd) (first : Bool) (rest : List Placed)
       → Each (λ (a : TreeNode A). GivesBoth a.part.shape) f → AreInPlace awaited first f → AreWhole awaited false rest
       → AreWhole awaited first (events_in f ++ rest)
-  events_whole nil awaited first rest both p w = rw p w
-  events_whole (node a below after) awaited first rest both p w =
-      tree_whole a.part.shape a.part.range a below after awaited first rest both.0 p
-      (λ ends starts more q v. events_whole below ends starts more both.1 q v)
-      (λ q. events_whole after awaited false rest both.2 q w)
+  events_whole nil awaited first rest and_parts p w = rw p w
+  events_whole (node a below after) awaited first rest and_parts p w =
+      tree_whole a.part.shape a.part.range a below after awaited first rest and_parts.0 p
+      (λ ends starts more q v. events_whole below ends starts more and_parts.1 q v)
+      (λ q. events_whole after awaited false rest and_parts.2 q w)
 
 -- ---- resolving keeps them in place
 
@@ -326,14 +328,6 @@ inline_shown : (b : ItemBody) → is_inline b ≡ true → is_inline (unnumbered
 inline_shown (body.Heading level (Some ix)) h = h
 inline_shown other h = h
 
-inline_childless : (b : ItemBody) → is_inline b ≡ true → IsTrue (is_childless b)
-inline_childless body.Rule h = refl
-inline_childless other h = h
-
-both : (a b : Bool) → (a && b) ≡ true → (a ≡ true) × (b ≡ true)
-both true b h = (refl, h)
-both false b h = cc h
-
 -- no table and no heading is open, nor, nearest of all, a head or a row
 abbrev AreOutside : (awaited : List TagEnd) → Type 0
 AreOutside awaited = (list_any ends_table awaited ≡ false) × (list_any closes_heading awaited ≡ false)
@@ -406,7 +400,7 @@ module _ (source : List ℕ) (tables : Tables) (held : Parts) (counts : PartCoun
   inline_chain : (f : Forest Numbered) → AllKeepRules source counts f → all_inline f ≡ true → HoldNone (labelled f)
   inline_chain nil k h = tt
   inline_chain (node a below after) k h =
-      let h = both (is_inline a.item.body) (all_inline after) h in (
+      let h = and_parts (is_inline a.item.body) (all_inline after) h in (
         inline_shape tables _ a.item.body (inline_shown a.item.body h.0),
         subst (λ (f : Forest Numbered). HoldNone (labelled f))
             (sym (k.0.chains_are_kept.childless (inline_childless a.item.body h.0))) tt,
@@ -458,7 +452,8 @@ module _ (source : List ℕ) (tables : Tables) (held : Parts) (counts : PartCoun
       (λ h ends outer near. blocks_in_place below ends (is_list (unnumbered a.item.body)) outer near h items.1 heads.1
       k.1 k.0.chains_are_kept.inline_only)
       (blocks_in_place after awaited in_list out at t.1 items.2 heads.2 k.2
-      (λ later. (both (is_inline a.item.body) (all_inline after) (o (rw later (or-true (is_open a.item.body))))).1))
+      (λ later. (and_parts (is_inline a.item.body) (all_inline after)
+      (o (rw later (or-true (is_open a.item.body))))).1))
       (λ is. inline_chain (node a below after) k (o (rw (open-unresolved tables _ a.item.body is) refl)))
 
 -- ---- the events of a text
@@ -485,10 +480,11 @@ all_kept [] awaited first h = (refl, refl, refl, refl)
 all_kept (e ∷ events) awaited first h =
     let more = keep_all (awaited_after e awaited) (starts_table e) events in
     let headings_and_parts = keeps_headings_apart e awaited && keeps_table_parts_alone e awaited in
-    let kept = both (keeps_all e awaited first) more h in
-    let own = both (keeps_tables_whole e awaited first) (keeps_items_in_lists e awaited && headings_and_parts) kept.0 in
-    let others = both (keeps_items_in_lists e awaited) headings_and_parts own.1 in
-    let last = both (keeps_headings_apart e awaited) (keeps_table_parts_alone e awaited) others.1 in
+    let kept = and_parts (keeps_all e awaited first) more h in
+    let own =
+    and_parts (keeps_tables_whole e awaited first) (keeps_items_in_lists e awaited && headings_and_parts) kept.0 in
+    let others = and_parts (keeps_items_in_lists e awaited) headings_and_parts own.1 in
+    let last = and_parts (keeps_headings_apart e awaited) (keeps_table_parts_alone e awaited) others.1 in
     let rest = all_kept events (awaited_after e awaited) (starts_table e) kept.1 in
     (rw own.0 rest.0, rw others.0 rest.1, rw last.0 rest.2, rw last.1 rest.3)
 

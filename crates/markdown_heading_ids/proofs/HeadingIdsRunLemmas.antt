@@ -8,13 +8,13 @@ use Rattle.std.proofs.lemmas.List.{map-append}
 use Rattle.markdown_base.specs.declared.event.Event.{Event}
 use Rattle.markdown_base.specs.declared.fault.Fault.{Fault}
 use Rattle.markdown_base.specs.declared.fault.Fault.TheVariants.{Memory}
+use Rattle.markdown_base.proofs.ListLemmas.{cons-tail}
 use Rattle.markdown_heading_ids.specs.HeadingIds.{Id, given_id, with_given, with_ids, with_ids_from}
 use Rattle.markdown_heading_ids.specs.HeadingIdsLaws.{AreAllWithIds, AreFirstOf, AreFirstWithIds, AreWithIdsUntil}
 use Rattle.markdown_heading_ids.specs.HeadingIdsLaws.{IsNewIds, ReturnsWithIds}
-use Rattle.markdown_heading_ids.specs.HeadingIdsNext.{CallsSource, GivesIds, HasReturnedAll}
-use Rattle.markdown_heading_ids.specs.HeadingIdsNext.{IdsState, IsRefusedAnId, MayCallSource}
-use Rattle.markdown_heading_ids.specs.HeadingIdsNext.{PassesItem, SourceItem, count_to_come, ids_steps, items_to_come}
-use Rattle.markdown_heading_ids.specs.HeadingIdsNext.{item_seen, unless_over}
+use Rattle.markdown_heading_ids.specs.HeadingIdsNext.{CallsSource, GivesIds, HasReturnedAll, IdsState, IsRefusedAnId}
+use Rattle.markdown_heading_ids.specs.HeadingIdsNext.{MayCallSource, PassesItem, SourceItem, count_to_come, ids_steps}
+use Rattle.markdown_heading_ids.specs.HeadingIdsNext.{items_to_come, item_seen, unless_over}
 use Rattle.markdown_heading_ids.specs.HeadingItems.{RangedItem, items_with_ids, until_error}
 use Rattle.markdown_heading_ids.specs.TakenIds.{StandsFor}
 use Rattle.markdown_out.specs.MergeNext.{CanMerge}
@@ -41,22 +41,19 @@ seen_events (e ∷ events) = ap (λ (xs : List RangedItem). Ok (ranged_view e) �
 ok_same : {x y : Ranged} {xs ys : List RangedItem} → Ok x ∷ xs ≡ Ok y ∷ ys → x ≡ y
 ok_same {x} {y} {xs} {ys} e = cc
 
-tail_same : {x y : RangedItem} {xs ys : List RangedItem} → x ∷ xs ≡ y ∷ ys → xs ≡ ys
-tail_same {x} {y} {xs} {ys} e = cc
-
 pub oks_same : (xs ys : List Ranged) → oks xs ≡ oks ys → xs ≡ ys
 oks_same [] [] e = refl
 oks_same [] (y ∷ ys) e = cc e
 oks_same (x ∷ xs) [] e = cc e
 oks_same (x ∷ xs) (y ∷ ys) e =
-    let head = ok_same e in let tail = oks_same xs ys (tail_same e) in cc
+    let head = ok_same e in let tail = oks_same xs ys (cons-tail e) in cc
 
 -- an error is no event
 no_error : (xs ys : List Ranged) (fault : Fault) (rest : List RangedItem) → oks xs ≡ oks ys ++ Err fault ∷ rest → ⊥
 no_error [] [] fault rest e = cc
 no_error [] (y ∷ ys) fault rest e = cc
 no_error (x ∷ xs) [] fault rest e = cc
-no_error (x ∷ xs) (y ∷ ys) fault rest e = no_error xs ys fault rest (tail_same e)
+no_error (x ∷ xs) (y ∷ ys) fault rest e = no_error xs ys fault rest (cons-tail e)
 
 -- events before an error are determined, and so is the error
 record AreSame (xs ys : List Ranged) (fault other : Fault) : Type 0 where
@@ -73,7 +70,7 @@ same_until [] (y ∷ ys) fault other more rest e = cc
 same_until (x ∷ xs) [] fault other more rest e = cc
 same_until (x ∷ xs) (y ∷ ys) fault other more rest e =
     let head = ok_same e in
-    let s = same_until xs ys fault other more rest (tail_same e) in
+    let s = same_until xs ys fault other more rest (cons-tail e) in
     let tail = s.events in
     record { events = cc; faults = s.faults }
 
@@ -83,7 +80,7 @@ first_of xs [] rest e = record { missing = xs; is = refl }
 first_of [] (y ∷ ys) rest e = cc e
 first_of (x ∷ xs) (y ∷ ys) rest e =
     let head : x ≡ y = ok_same e in
-    let f = first_of xs ys rest (tail_same e) in
+    let f = first_of xs ys rest (cons-tail e) in
     let tail = f.is in
     record { missing = f.missing; is = cc }
 
@@ -93,7 +90,7 @@ first_until xs [] fault more rest e = record { missing = xs; is = refl }
 first_until [] (y ∷ ys) fault more rest e = cc e
 first_until (x ∷ xs) (y ∷ ys) fault more rest e =
     let head : x ≡ y = ok_same e in
-    let f = first_until xs ys fault more rest (tail_same e) in
+    let f = first_until xs ys fault more rest (cons-tail e) in
     let tail = f.is in
     record { missing = f.missing; is = cc }
 

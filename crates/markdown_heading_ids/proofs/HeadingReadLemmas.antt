@@ -1,24 +1,21 @@
 -- What the adapter has read of a heading, and what a call returns by it.
-use Rattle.std.proofs.Common.{◌≡◌, ℕ, Bool, true, false, not, List, [], ◌∷◌, ◌++◌, map, Ok, Err, Option, Some}
-use Rattle.std.proofs.Common.{None, refl, sym, ap, ◌∙◌, append_assoc, append-nil}
+use Rattle.std.proofs.Common.{◌≡◌, ℕ, Bool, true, false, not, List, [], ◌∷◌, ◌++◌, map, Ok, Err, Option, Some, None}
+use Rattle.std.proofs.Common.{refl, sym, ap, ◌∙◌, append_assoc, append-nil, ◌+◌, ◌≤◌, arith, cond, length}
 use Rattle.std.specs.Prelude.{is_some}
 use Rattle.std.specs.Iterator.{Count, Yields, size}
 use Rattle.std.specs.declared.ops.Range.{Range}
 use Rattle.std.proofs.iter.Next.{Yields-more}
-use Rattle.std.proofs.Common.{◌+◌, ◌≤◌, arith, cond, drop, length, option_to_list}
 use Rattle.std.proofs.lemmas.List.{length-map, map-append}
 use Rattle.markdown_base.specs.Event.{EventView, HeadingView, end, event_view}
 use Rattle.markdown_base.specs.declared.event.Event.{Event}
 use Rattle.markdown_base.specs.declared.fault.Fault.{Fault}
 use Rattle.markdown_base.specs.declared.fault.Fault.TheVariants.{Memory}
 use Rattle.markdown_heading_ids.specs.Anchors.{heading_anchor}
-use Rattle.markdown_heading_ids.specs.HeadingIds.{Id, free_id, given_id, has_no_id, id_unless, lacks_id}
-use Rattle.markdown_heading_ids.specs.HeadingIds.{with_given}
+use Rattle.markdown_heading_ids.specs.HeadingIds.{Id, free_id, given_id, has_no_id, id_unless, lacks_id, with_given}
 use Rattle.markdown_heading_ids.specs.HeadingIdsNext.{CallsSource, HasReturnedAll, IdsState, IsRefusedAnId, PassesItem}
 use Rattle.markdown_heading_ids.specs.HeadingIdsNext.{SourceItem, count_to_come, items_to_come, item_seen, unless_over}
 use Rattle.markdown_heading_ids.specs.HeadingItems.{RangedItem, items_with_ids, until_error}
-use Rattle.markdown_heading_ids.specs.HeadingRead.{HeadingIsRead, TakesEvent, ends_with, heading_words}
-use Rattle.markdown_heading_ids.specs.HeadingRead.{words_added}
+use Rattle.markdown_heading_ids.specs.HeadingRead.{HeadingIsRead, TakesEvent, ends_with, heading_words, words_added}
 use Rattle.markdown_heading_ids.specs.TakenIds.{StandsFor}
 use Rattle.markdown_heading_ids.specs.declared.taken.Taken.{Taken}
 use Rattle.markdown_outline.specs.Outline.{Ranged, ends_heading, joined_text, opened_heading, text_added, up_to_end}
@@ -348,17 +345,3 @@ module _ {S : Type 0} (steps : S → Option SourceItem → S → Type 0) where
         nothing = nothing;
         over = over;
       }
-
--- a queue from which nothing was popped is empty
-pub nothing_popped : {A : Type 0} (r : Option A) (old now : List A) → r ≡ None → old ≡ option_to_list r ++ now
-    → now ≡ drop 1 old → old ≡ []
-nothing_popped r [] now none items rest = refl
-nothing_popped r (x ∷ old) now none items rest =
-    let popped = rw (none, rest) at items in
-    absurd (omega (arith, ap length popped))
-
-pub nothing_kept : {A : Type 0} (r : Option A) (old now : List A) → r ≡ None → old ≡ option_to_list r ++ now
-    → now ≡ drop 1 old → now ≡ []
-nothing_kept {A} r old now none items rest =
-    let empty = nothing_popped r old now none items rest in
-    rest ∙ ap (λ (xs : List A). drop 1 xs) empty

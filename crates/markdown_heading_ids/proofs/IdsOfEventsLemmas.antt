@@ -1,7 +1,6 @@
 -- Laws of events with the ids of their headings.
-use Rattle.std.proofs.Common.{◌≡◌, ◌⊎◌, ◌+◌, ◌<◌, ◌≤◌, ◌^◌, ℕ, length, Bool, true}
-use Rattle.std.proofs.Common.{false, not, if◌then◌else◌, List, [], ◌∷◌, ◌++◌, map, Option, Some}
-use Rattle.std.proofs.Common.{None, refl, sym, ap, subst, ◌∙◌, inl, inr, arith}
+use Rattle.std.proofs.Common.{◌≡◌, ◌⊎◌, ◌+◌, ◌<◌, ◌≤◌, ◌^◌, ℕ, length, Bool, true, false, not, if◌then◌else◌, List, []}
+use Rattle.std.proofs.Common.{◌∷◌, ◌++◌, map, Option, Some, None, refl, sym, ap, subst, ◌∙◌, inl, inr, arith}
 use Rattle.std.specs.Prelude.{IsSome, is_some}
 use Rattle.std.specs.List.{All, AllZip}
 use Rattle.std.proofs.lemmas.List.Elements.{All-append, All-cons, All-nil}
@@ -11,8 +10,7 @@ use Rattle.markdown_heading_ids.specs.HeadingIds.{Id, event_ids, event_with_id, 
 use Rattle.markdown_heading_ids.specs.HeadingIds.{has_no_id, lacks_id, own_ids, with_given, with_ids, with_ids_from}
 use Rattle.markdown_heading_ids.specs.IdsOfEvents.{ASecondTimeChangesNothing, AreFresh, EachHeadingHasAnId, GainsId}
 use Rattle.markdown_heading_ids.specs.IdsOfEvents.{GivenIdsAreFresh, HasId, HaveIdsFrom, OnlyIdsAreAdded}
-use Rattle.markdown_heading_ids.specs.IdsOfEvents.{OutlinesHaveIds, heading_ids, ids_given, start_ids_from}
-use Rattle.markdown_heading_ids.specs.IdsOfEvents.{without_id}
+use Rattle.markdown_heading_ids.specs.IdsOfEvents.{OutlinesHaveIds, heading_ids, ids_given, start_ids_from, without_id}
 use Rattle.markdown_outline.specs.Outline.{EntryView, Ranged, ends_heading, entries_from, heading_entry, joined_text}
 use Rattle.markdown_outline.specs.Outline.{opened_entry, opened_heading, text_added, up_to_end}
 

@@ -1,7 +1,6 @@
 -- What is taken by the blocks of a block result, node by node in preorder.
-use Rattle.std.proofs.Common.{◌≡◌, ℕ, Bool, true, false, ◌||◌, List, []}
-use Rattle.std.proofs.Common.{◌∷◌, ◌++◌, Option, Some, None, refl, sym, ap, ◌∙◌}
-use Rattle.std.proofs.Common.{bytes_eq, flat_map, map}
+use Rattle.std.proofs.Common.{◌≡◌, ℕ, Bool, true, false, ◌||◌, List, [], ◌∷◌, ◌++◌, Option, Some, None, refl, sym, ap}
+use Rattle.std.proofs.Common.{◌∙◌, bytes_eq, flat_map, map}
 use Rattle.std.proofs.lemmas.List.Folds.{list_any-append}
 use Rattle.markdown_base.proofs.ForestLemmas.{preorder-relabelled, relabelled-relabelled}
 use Rattle.markdown_base.specs.ArenaForest.{numbers_below}

@@ -17,6 +17,7 @@ use Rattle.markdown_heading_ids.specs.declared.taken.Taken.{Taken}
 use Rattle.markdown_heading_ids.proofs.TakenLemmas.{stands_alike}
 use Rattle.markdown_outline.specs.Outline.{Ranged}
 use Rattle.markdown_outline.specs.OutlineRead.{MeetsError, event_items, ranged_view}
+use Rattle.markdown_outline.proofs.OutlineReadLemmas.{items-more}
 
 abbrev Placed : Type 0
 Placed = Event × Range ℕ
@@ -31,13 +32,6 @@ pub record TookIds (t : Taken) (yielded : List (Result Placed Fault)) : Type 0 w
 pub TookIds-none : (t : Taken) (yielded : List (Result Placed Fault)) → StandsFor t ([] ∷ []) → yielded ≡ []
     → TookIds t yielded
 TookIds-none t yielded st none = record { events = []; read = none; stands = st }
-
-items-more : (events : List Placed) (e : Placed) (yielded : List (Result Placed Fault)) (item : Result Placed Fault)
-    → yielded ≡ event_items events → item ≡ Ok e → yielded ++ item ∷ [] ≡ event_items (events ++ e ∷ [])
-items-more events e yielded item y i =
-    ap (λ (ys : List (Result Placed Fault)). ys ++ item ∷ []) y
-    ∙ ap (λ (x : Result Placed Fault). event_items events ++ x ∷ []) i
-    ∙ sym (map-append (λ (e : Placed). Ok e) events (e ∷ []))
 
 -- whether an id is among others does not depend on their order
 turned : (new empty old : Bool) → (empty || (old || (new || false))) ≡ (new || (empty || old))

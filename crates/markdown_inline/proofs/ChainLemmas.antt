@@ -1,7 +1,6 @@
 -- A chain that is resolved in place: what a walk that is before it has left.
 use Rattle.std.proofs.Common.{◌+◌, ◌≡◌, ℕ, ◌<◌, ◌≤◌, Bool, true, false, List, [], ◌∷◌, ◌++◌, map, length, Option, Some}
-use Rattle.std.proofs.Common.{refl, ap, sym, ◌∙◌}
-use Rattle.std.proofs.Common.{⊎_elim, arith, append_assoc}
+use Rattle.std.proofs.Common.{refl, ap, sym, ◌∙◌, ⊎_elim, arith, append_assoc}
 use Rattle.std.specs.Prelude.{slice_range}
 use Rattle.std.proofs.lemmas.Bool.{cases_lt}
 use Rattle.std.proofs.lemmas.List.{map-append}
@@ -30,9 +29,8 @@ use Rattle.markdown_document.specs.Places.{tree_node_at, trees_from}
 use Rattle.markdown_document.specs.PlacedNodes.{IsPlaced}
 use Rattle.markdown_resolver.specs.PassOne.{Outcome}
 use Rattle.markdown_resolver.specs.Resolved.{resolved, all_paired}
-use Rattle.markdown_document.specs.Document.{no_notes, Plain, Shape, leaf, enclosed, plain, backslash_break}
-use Rattle.markdown_document.specs.Document.{unresolved, is_unresolved}
-use Rattle.markdown_document.specs.Document.{shape_of}
+use Rattle.markdown_document.specs.Document.{no_notes, Plain, Shape, leaf, enclosed, plain, backslash_break, unresolved}
+use Rattle.markdown_document.specs.Document.{is_unresolved, shape_of}
 use Rattle.markdown_document.specs.TreeNodes.{GivesFirst, Begins}
 use Rattle.markdown_resolver.specs.Unread.{IsUnread}
 use Rattle.markdown_resolver.specs.KeptChains.{IsClosedChain}
@@ -40,13 +38,12 @@ use Rattle.markdown_document.specs.Totals.{same}
 use Rattle.markdown_document.specs.NamedEntries.{naming, Named, number_of, size_for}
 use Rattle.markdown_document.specs.Tables.{Tables}
 use Rattle.markdown_document.specs.declared.work.Work.{Work}
-use Rattle.markdown_document.proofs.TablesLemmas.{same-apart, grown-same, grown-longer}
+use Rattle.markdown_document.proofs.TablesLemmas.{same-apart, grown-same, grown-longer, same-refl}
 use Rattle.markdown_document.proofs.PlaceLemmas.{times-past, named-past, shape-open}
 use Rattle.markdown_inline.specs.WalkTotals.{climbed, left_total, steps_of}
 use Rattle.markdown_inline.specs.Standing.{SpineLies, Stands}
 use Rattle.markdown_inline.proofs.LeftFrameLemmas.{AboveFramed, above_framed}
 use Rattle.markdown_inline.proofs.ReadingLemmas.{SameElements, reading-literal, opened-open}
-use Rattle.markdown_document.proofs.TablesLemmas.{same-refl}
 use Rattle.markdown_resolver.proofs.ResolvingLemmas.{resolved-literal, resolved-begins, IsKept-from_IsClosedChain}
 
 pub times_above-past : (k : Links) (p : ℕ → Type 0) (spine : List ℕ) (n : ℕ) → AllReach k p spine → k.size ≤ n

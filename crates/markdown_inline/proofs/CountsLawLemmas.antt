@@ -1,8 +1,7 @@
 -- No count of a walk reaches its maximum: a call counts at most as many as there are steps to come before it, and steps
 -- get fewer.
 use Rattle.std.proofs.Common.{◌≡◌, ℕ, zero, suc, ◌+◌, ◌*◌, ◌^◌, ◌<◌, ◌≤◌, Bool, true, false, List, [], ◌∷◌, ◌++◌}
-use Rattle.std.proofs.Common.{length}
-use Rattle.std.proofs.Common.{Option, Some, None, Result, Ok, Err, refl, ap, subst, arith}
+use Rattle.std.proofs.Common.{length, Option, Some, None, Result, Ok, Err, refl, ap, subst, arith}
 use Rattle.std.specs.Prelude.{IfSome, slice_range}
 use Rattle.std.specs.declared.ops.Range.{Range}
 use Rattle.markdown_base.specs.Arena.{sibling_of}
@@ -21,9 +20,7 @@ use Rattle.markdown_document.specs.EnclosingBlocks.{EnclosingBlocks, above_at, i
 use Rattle.markdown_document.specs.Counts.{ChainCounts, RisesAtMost, WorkRises, comparisons_per_delimiter, no_counts}
 use Rattle.markdown_document.specs.Counts.{risen, counts_delimiter, counts_shape, delimiters_in}
 use Rattle.markdown_document.specs.Document.{TreeNode, Plain, Shape, Notes, backslash_break, enclosed, is_unresolved}
-use Rattle.markdown_document.specs.Document.{leaf}
-use Rattle.markdown_document.specs.Document.{plain, no_notes}
-use Rattle.markdown_document.specs.Document.{shape_of, unresolved}
+use Rattle.markdown_document.specs.Document.{leaf, plain, no_notes, shape_of, unresolved}
 use Rattle.markdown_document.specs.TreeNodes.{weight}
 use Rattle.markdown_document.specs.Places.{tree_node_at, trees_from}
 use Rattle.markdown_document.specs.Setting.{ReferenceState, Setting}

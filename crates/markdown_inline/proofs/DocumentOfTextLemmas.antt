@@ -1,6 +1,5 @@
 -- The document of a text is that of each of its block results, whatever the numbers by which items refer to parts.
-use Rattle.std.proofs.Common.{◌≡◌, ℕ, zero, suc, ◌-◌, false, List, [], ◌∷◌, Some, None, refl, sym}
-use Rattle.std.proofs.Common.{ap, ◌∙◌, map, subst}
+use Rattle.std.proofs.Common.{◌≡◌, ℕ, zero, suc, ◌-◌, false, List, [], ◌∷◌, Some, None, refl, sym, ap, ◌∙◌, map, subst}
 use Rattle.std.specs.Option.{option_map}
 use Rattle.std.specs.Prelude.{slice_get, slice_range, unwrap_or}
 use Rattle.std.specs.declared.alloc.Global.{Global}

@@ -15,11 +15,9 @@ use Rattle.markdown_inline.specs.LimitLaw.{listed_at_ends, sum_but_last, tag_exp
 use Rattle.markdown_inline.specs.ParserLeft.{expansion_limit}
 use Rattle.markdown_inline.specs.ResolvedDocument.{resolved_blocks}
 use Rattle.markdown_inline.proofs.EndOrderLemmas.{Fits, IsWithin, ends_drop, ends_mono, ends_onto, keep_list, total}
-use Rattle.markdown_inline.proofs.EndOrderLemmas.{within_same}
-use Rattle.markdown_inline.proofs.EndOrderLemmas.{within_trans}
+use Rattle.markdown_inline.proofs.EndOrderLemmas.{within_same, within_trans}
 use Rattle.markdown_inline.proofs.WholeReadingLemmas.{alone, alone_at, alone_event, ranged_in, expansion_at}
-use Rattle.markdown_inline.proofs.WholeReadingLemmas.{opened_events, whole_events}
-use Rattle.markdown_inline.proofs.WholeReadingLemmas.{whole_such}
+use Rattle.markdown_inline.proofs.WholeReadingLemmas.{opened_events, whole_events, whole_such}
 
 -- an event that is neither a Start nor an End lists nothing
 lone_lists : (e : EventView) (opened : List (List ℕ)) (rest : List (List ℕ) → List ℕ) → total (alone_event e) ≡ 0

@@ -1,8 +1,7 @@
 -- Resolving a chain whose only links are autolinks puts no link into a link: pass one by the law of brackets, and
 -- pairing since it makes no link and moves none into another.
 use Rattle.std.proofs.Common.{◌≡◌, ℕ, Bool, true, false, List, [], ◌∷◌, ◌++◌, Option, Some, None, refl, sym, ◌∙◌}
-use Rattle.std.proofs.Common.{append_assoc}
-use Rattle.std.proofs.Common.{arith}
+use Rattle.std.proofs.Common.{append_assoc, arith}
 use Rattle.std.specs.Option.{option_map, option_map_or, option_or}
 use Rattle.std.specs.Prelude.{⊤, IfSome, if◌then◌else◌, slice_range, take}
 use Rattle.markdown_base.specs.Event.{TagView, link}
@@ -12,8 +11,7 @@ use Rattle.markdown_base.specs.declared.item.ItemBody.TheVariants as body
 use Rattle.markdown_base.specs.declared.tag.LinkType.TheVariants as written
 use Rattle.markdown_document.specs.EnclosingBlocks.{EnclosingBlocks}
 use Rattle.markdown_document.specs.Document.{Notes, Shape, leaf, enclosed, plain, backslash_break, unresolved, TreeNode}
-use Rattle.markdown_document.specs.Document.{shaped, is_unresolved}
-use Rattle.markdown_document.specs.Document.{text_over}
+use Rattle.markdown_document.specs.Document.{shaped, is_unresolved, text_over}
 use Rattle.markdown_document.specs.ChainRest.{as_item, end_of, next_starts_at, open_body, start_of}
 use Rattle.markdown_document.specs.Setting.{Setting, ReferenceState}
 use Rattle.markdown_document.specs.Waiting.{text_if, is_quiet}
@@ -37,8 +35,7 @@ use Rattle.markdown_delims.proofs.SumLemmas.{sum_of}
 use Rattle.markdown_brackets.specs.BracketDecision.{Progress}
 use Rattle.markdown_brackets.specs.LeftList.{Entry, done, waits, all_done}
 use Rattle.markdown_brackets.specs.NoLinkInLink.{AreFreeTrees, ClosesOverNone, HasMoreTrees, HasNoLinkInLink}
-use Rattle.markdown_brackets.specs.NoLinkInLink.{HasNoneBelow, IsFreeOfLinks}
-use Rattle.markdown_brackets.specs.NoLinkInLink.{IsNoLink, OpensNoLink, is_autolink}
+use Rattle.markdown_brackets.specs.NoLinkInLink.{HasNoneBelow, IsFreeOfLinks, IsNoLink, OpensNoLink, is_autolink}
 use Rattle.markdown_brackets.proofs.NoLinkLemmas.{no_link_in_link}
 use Rattle.markdown_resolver.specs.PassOne.{bracket_context, pass_one, read_other}
 use Rattle.markdown_resolver.specs.Resolved.{all_paired, paired_from, paired_if_open, resolved}

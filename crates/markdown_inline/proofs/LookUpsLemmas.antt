@@ -1,8 +1,7 @@
 -- What a look-up finds takes its bytes off the limit, which was not 0 before; nothing else in a chain changes the
 -- limit.
 use Rattle.std.proofs.Common.{◌≡◌, ℕ, ◌-◌, ◌≤◌, Bool, true, false, List, [], ◌∷◌, map, Option, Some, None, refl, sym}
-use Rattle.std.proofs.Common.{subst}
-use Rattle.std.proofs.Common.{arith, nat_le}
+use Rattle.std.proofs.Common.{subst, arith, nat_le}
 use Rattle.std.specs.Option.{option_map}
 use Rattle.std.specs.Prelude.{MatchOption, if◌then◌else◌, unwrap_or}
 use Rattle.std.proofs.lemmas.List.{map-append}
@@ -15,9 +14,8 @@ use Rattle.markdown_document.specs.ChainRest.{begun_at, end_of, open_body}
 use Rattle.markdown_document.specs.Document.{Notes, TreeNode}
 use Rattle.markdown_document.specs.Setting.{Setting, ReferenceState}
 use Rattle.markdown_brackets.specs.BracketDecision.{BracketContext, Becomes, Closing, Decision, Written, LinkReference}
-use Rattle.markdown_brackets.specs.BracketDecision.{Progress, a_footnote, a_link}
-use Rattle.markdown_brackets.specs.BracketDecision.{a_text, a_wikilink, carried_out, decided, footnote_label, found}
-use Rattle.markdown_brackets.specs.BracketDecision.{inline_link, left_for_one}
+use Rattle.markdown_brackets.specs.BracketDecision.{Progress, a_footnote, a_link, a_text, a_wikilink, carried_out}
+use Rattle.markdown_brackets.specs.BracketDecision.{decided, footnote_label, found, inline_link, left_for_one}
 use Rattle.markdown_brackets.specs.BracketDecision.{link_reference, question_at, second_end, wikilink}
 use Rattle.markdown_brackets.specs.ClosingBracket.{closed, put}
 use Rattle.markdown_brackets.specs.LeftList.{Split, bracket_taken}

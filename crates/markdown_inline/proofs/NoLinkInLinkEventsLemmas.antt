@@ -1,7 +1,7 @@
 -- In the events of a forest in which no link is in a link, and no leaf is a Start or an End, no Start of a link is in a
 -- link.
-use Rattle.std.proofs.Common.{◌≡◌, ℕ, suc, ◌≤◌, Bool, true, false, List, [], ◌∷◌, ◌++◌, refl, sym, subst}
-use Rattle.std.proofs.Common.{append_assoc, append-nil, arith, inl, inr}
+use Rattle.std.proofs.Common.{◌≡◌, ℕ, suc, ◌≤◌, Bool, true, false, List, [], ◌∷◌, ◌++◌, refl, sym, subst, append_assoc}
+use Rattle.std.proofs.Common.{append-nil, arith, inl, inr}
 use Rattle.std.specs.declared.ops.Range.{Range}
 use Rattle.markdown_base.specs.Event.{EventView, TagView, start, end, tag_end, link}
 use Rattle.markdown_base.specs.Forest.{Forest, nil, node}
@@ -10,11 +10,10 @@ use Rattle.markdown_base.specs.declared.tag.LinkType.TheVariants as kind
 use Rattle.markdown_document.specs.Document.{Shape, leaf, enclosed, plain, backslash_break, unresolved, TreeNode}
 use Rattle.markdown_delims.proofs.SumLemmas.{sum_of}
 use Rattle.markdown_brackets.specs.NoLinkInLink.{ClosesOverNone, HasNoLinkInLink, HasNoneBelow, IsFreeOfLinks, IsNoLink}
-use Rattle.markdown_brackets.specs.NoLinkInLink.{OpensNoLink}
-use Rattle.markdown_brackets.specs.NoLinkInLink.{is_autolink}
+use Rattle.markdown_brackets.specs.NoLinkInLink.{OpensNoLink, is_autolink}
 use Rattle.markdown_inline.specs.Balanced.{Ranged}
-use Rattle.markdown_inline.specs.NoLinkInLinkEvents.{NoLinkInLink, NoLinkInLinkFrom, NoLinkInLinkLaw}
-use Rattle.markdown_inline.specs.NoLinkInLinkEvents.{StartsInLink, StartsNoLinkInLink}
+use Rattle.markdown_inline.specs.NoLinkInLinkEvents.{NoLinkInLink, NoLinkInLinkFrom, NoLinkInLinkLaw, StartsInLink}
+use Rattle.markdown_inline.specs.NoLinkInLinkEvents.{StartsNoLinkInLink}
 use Rattle.markdown_inline.specs.ParserLeft.{rules_of}
 use Rattle.markdown_inline.specs.ResolvedDocument.{resolved_blocks}
 use Rattle.markdown_inline.proofs.EndOrderLemmas.{total}

@@ -13,10 +13,9 @@ use Rattle.markdown_document.specs.Waiting.{as_closed, text_if}
 use Rattle.markdown_delims.specs.Layers.{enclosed_if, layer_of_one, layer_of_two, extensions_of, spanned}
 use Rattle.markdown_delims.specs.MayPair.{may_pair}
 use Rattle.markdown_delims.specs.Pairing.{FoundOpener, Layers, Read, after_layers, characters_done, done_read}
-use Rattle.markdown_delims.specs.Pairing.{drop_read, first_texts}
-use Rattle.markdown_delims.specs.Pairing.{last_first, layers, left_over, nearest_opener, opened_if, paired, read_trees}
-use Rattle.markdown_delims.specs.Pairing.{reads_from}
-use Rattle.markdown_delims.specs.Pairing.{runs_paired, still_waiting, texts_before, trees_done, waiting}
+use Rattle.markdown_delims.specs.Pairing.{drop_read, first_texts, last_first, layers, left_over, nearest_opener}
+use Rattle.markdown_delims.specs.Pairing.{opened_if, paired, read_trees, reads_from, runs_paired, still_waiting}
+use Rattle.markdown_delims.specs.Pairing.{texts_before, trees_done, waiting}
 use Rattle.markdown_delims.specs.Quotes.{first_turn, is_closed_later, is_end, kind_of_shape, quotes_after, with_quotes}
 use Rattle.markdown_delims.specs.declared.extensions.Extensions.{Extensions}
 use Rattle.markdown_delims.specs.declared.run.Delimiter.{Delimiter}
@@ -27,8 +26,7 @@ use Rattle.markdown_delims.proofs.StepLawLemmas.{StaysTrue, found-if, later, rea
 use Rattle.markdown_resolver.specs.Resolved.{all_paired, paired_from, paired_if_open}
 use Rattle.markdown_inline.specs.ResolvedShapes.{IsMadeEvent, IsPairedTag}
 use Rattle.markdown_inline.proofs.EndOrderLemmas.{IsWithin, drop_list, ends_drop, ends_mono, ends_onto, keep_list}
-use Rattle.markdown_inline.proofs.EndOrderLemmas.{within_same}
-use Rattle.markdown_inline.proofs.EndOrderLemmas.{within_trans}
+use Rattle.markdown_inline.proofs.EndOrderLemmas.{within_same, within_trans}
 
 -- a tag of no link and of no image
 abbrev pub IsNoBracket : TagView → Type 0

@@ -1,7 +1,6 @@
 -- The steps of a parser, and what they give of what was left.
 use Rattle.std.proofs.Common.{◌≡◌, ℕ, Bool, ap, ◌<◌, List, [], ◌∷◌, ◌++◌, Option, Some, None, Result, Ok, Err, ◌⊎◌, inl}
-use Rattle.std.proofs.Common.{inr, refl}
-use Rattle.std.proofs.Common.{map, sym, subst, ◌∙◌, arith, append_assoc}
+use Rattle.std.proofs.Common.{inr, refl, map, sym, subst, ◌∙◌, arith, append_assoc}
 use Rattle.std.specs.Prelude.{is_some, MatchResult}
 use Rattle.std.specs.Borrow.{Bor}
 use Rattle.std.specs.declared.ops.Range.{Range}
@@ -31,14 +30,12 @@ use Rattle.markdown_inline.specs.Moves.{Leads, Keeps, Gave, GaveEvent, WentOn, E
 use Rattle.markdown_inline.specs.Moves.{Began, RefusedAt, Took, WentPast, shape_in}
 use Rattle.markdown_inline.specs.NextGives.{NextGives, IsEventOf, IsPlacedOf, GivesItem}
 use Rattle.markdown_inline.specs.ParserLeft.{parser_state, parser_counts, parser_work, parser_callback, parser_steps}
-use Rattle.markdown_inline.specs.ParserLeft.{parser_setting}
-use Rattle.markdown_inline.specs.ParserLeft.{elements, parser_left, parser_text, IsOver}
+use Rattle.markdown_inline.specs.ParserLeft.{parser_setting, elements, parser_left, parser_text, IsOver}
 use Rattle.markdown_document.specs.Setting.{Setting, by_label, rules_from, setting_of}
 use Rattle.markdown_document.specs.Tables.{tables_of}
 use Rattle.markdown_inline.specs.Walk.{left_of}
 use Rattle.markdown_inline.specs.WalkSteps.{HasEnded, TreeStands, Went, Gives, PassedBeginning, OpensWith, IsRefused}
-use Rattle.markdown_inline.specs.WalkSteps.{events_first}
-use Rattle.markdown_inline.specs.WalkSteps.{IsBeforeChain, visit_at}
+use Rattle.markdown_inline.specs.WalkSteps.{events_first, IsBeforeChain, visit_at}
 use Rattle.markdown_inline.specs.declared.bodies.Visit.{Visit}
 use Rattle.markdown_inline.specs.declared.walk.Parser.{Parser}
 use Rattle.markdown_document.proofs.CallbackLemmas.{Asks-append, Asks-some}

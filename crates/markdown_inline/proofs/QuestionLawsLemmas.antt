@@ -1,6 +1,5 @@
 -- The questions of a reading are those of its chains, and all `]` of a chain are in its document.
-use Rattle.std.proofs.Common.{◌≡◌, ℕ, ◌+◌, ◌≤◌, Bool, true, false, List, [], ◌++◌, length, cond, refl, ap, ◌∙◌, arith}
-use Rattle.std.proofs.Common.{length-append}
+use Rattle.std.proofs.Common.{◌≡◌, ℕ, ◌+◌, ◌≤◌, Bool, List, [], ◌++◌, length, cond, refl, ap, ◌∙◌, arith, length-append}
 use Rattle.std.specs.Prelude.{count_by, slice_range}
 use Rattle.std.proofs.lemmas.List.Sums.{sum_by-append, sum_by-cons}
 use Rattle.markdown_base.specs.BlockTree.{Numbered, tree_of}
@@ -9,17 +8,14 @@ use Rattle.markdown_base.specs.Forest.{Forest, nil, node, preorder, relabelled, 
 use Rattle.markdown_base.specs.WellFormed.{IsWellFormed}
 use Rattle.markdown_base.specs.declared.block_parts.BlockParts.{BlockParts}
 use Rattle.markdown_base.specs.declared.item.Item.{Item}
-use Rattle.markdown_base.specs.declared.item.ItemBody.{ItemBody}
 use Rattle.markdown_base.specs.declared.item.ItemBody.TheVariants as body
 use Rattle.markdown_base.specs.declared.node.Node.{Node}
 use Rattle.markdown_brackets.specs.QuestionEnds.{StandInLine}
 use Rattle.markdown_brackets.specs.QuestionsAsked.{AsksAtMost, closers_among, closes_bracket}
 use Rattle.markdown_brackets.specs.Reference.{is_closing_bracket}
 use Rattle.markdown_document.specs.EnclosingBlocks.{EnclosingBlocks, inside_node, no_blocks}
-use Rattle.markdown_document.specs.ChainRest.{open_body}
 use Rattle.markdown_document.specs.Document.{TreeNode, Plain, Shape, backslash_break, document, enclosed, tree_node_of}
-use Rattle.markdown_document.specs.Document.{leaf}
-use Rattle.markdown_document.specs.Document.{plain, no_notes, shape_of, unresolved}
+use Rattle.markdown_document.specs.Document.{leaf, plain, no_notes, unresolved}
 use Rattle.markdown_document.specs.Setting.{ReferenceState, Rules, Setting, setting_of}
 use Rattle.markdown_document.specs.Tables.{Tables}
 use Rattle.markdown_inline.specs.Elements.{Element, Reading, nothing_read, questions_of, then_reads}
@@ -31,6 +27,7 @@ use Rattle.markdown_resolver.specs.PassOne.{Outcome}
 use Rattle.markdown_resolver.specs.Resolved.{all_paired, resolved}
 use Rattle.markdown_resolver.proofs.ChainQuestionsLemmas.{document_in_line, resolved_asks, resolved_ends}
 use Rattle.markdown_resolver.proofs.ChainQuestionsLemmas.{resolved_stays_zero}
+use Rattle.markdown_resolver.proofs.GoesOnLemmas.{shows_closer}
 
 -- a reading asks at most this many questions, and none at a limit of 0
 record Few (most : ℕ) (r : Reading) : Type 0 where
@@ -137,14 +134,6 @@ module _ (s : Setting) where
       within (reading_few later above most after h) (omega (arith, sum))
       (chain_few above (node a below later) most after h) a.part.shape
 
--- an item is a `]` where its node is
-closer_seen : (tables : Tables) (source : List ℕ) (b : ItemBody) → is_closing_bracket (open_body
-    (shape_of tables source b))
-    ≡ is_closing_bracket b
-closer_seen tables source (body.HardBreak true) = refl
-closer_seen tables source (body.HardBreak false) = refl
-closer_seen tables source other = refl
-
 module _ (source : List ℕ) (tables : Tables) where
   abbrev seen : Numbered → Plain
   seen n = tree_node_of source tables n.item
@@ -155,7 +144,7 @@ module _ (source : List ℕ) (tables : Tables) where
   closers_seen nil = refl
   closers_seen (node a below after) =
       let here = ap {B = ℕ} (λ (b : Bool). cond b 1 0)
-      (closer_seen tables (slice_range source a.item.start a.item.end) a.item.body) in
+      (shows_closer tables (slice_range source a.item.start a.item.end) a.item.body) in
       let one : Numbered → ℕ = λ n. cond (is_closing_bracket n.item.body) 1 0 in
       let labels = closers_sum (seen a) (relabelled seen below) (relabelled seen after) in
       let items = sum_by-cons one a (preorder below ++ preorder after) in

@@ -2,8 +2,7 @@
 -- have none: then only what look-ups made has some, and a property of them and of the limit that each look-up keeps is
 -- kept.
 use Rattle.std.proofs.Common.{◌≡◌, ℕ, ◌+◌, ◌-◌, ◌≤◌, Bool, true, false, List, [], ◌∷◌, Option, Some, None, refl, sym}
-use Rattle.std.proofs.Common.{subst, ap, ◌∙◌}
-use Rattle.std.proofs.Common.{append-nil, append_assoc, ◌++◌, arith, nat_le}
+use Rattle.std.proofs.Common.{subst, ap, ◌∙◌, append-nil, append_assoc, ◌++◌, arith, nat_le}
 use Rattle.std.proofs.lemmas.Bool.{cond_both}
 use Rattle.std.proofs.lemmas.Bool.Decides.{nat_tests}
 use Rattle.std.specs.Prelude.{◌==◌, IfSome, MatchOption, if◌then◌else◌, slice_range, unwrap_or}
@@ -21,25 +20,19 @@ use Rattle.markdown_document.specs.Setting.{DefinitionsByLabel, Setting, Referen
 use Rattle.markdown_document.specs.Waiting.{is_quiet}
 use Rattle.markdown_spans.specs.AfterLess.{Markup, autolink, html_markup}
 use Rattle.markdown_spans.specs.Finds.{Find, SpanText, address, code_span, code_trees, find, is_escaped, markup}
-use Rattle.markdown_spans.specs.Finds.{link_type, markup_trees, math_span}
+use Rattle.markdown_spans.specs.Finds.{link_type, markup_trees, math_span, nothing, read_tree, read_unless, trees_for}
 use Rattle.markdown_spans.specs.declared.after_less.AutolinkKind.{AutolinkKind}
 use Rattle.markdown_spans.specs.declared.after_less.AutolinkKind.TheVariants.{Uri, Email}
-use Rattle.markdown_spans.specs.Finds.{nothing, read_tree, read_unless, trees_for}
 use Rattle.markdown_delims.specs.Pairing.{paired}
 use Rattle.markdown_brackets.specs.BracketDecision.{BracketContext, Closing, Written, LinkReference, Progress, Wikilink}
-use Rattle.markdown_brackets.specs.BracketDecision.{a_footnote, a_link, a_text}
-use Rattle.markdown_brackets.specs.BracketDecision.{a_wikilink, carried_out, decided, found, inline_target}
-use Rattle.markdown_brackets.specs.BracketDecision.{inline_title}
-use Rattle.markdown_brackets.specs.BracketDecision.{left_for_one, looked_up, past_second}
+use Rattle.markdown_brackets.specs.BracketDecision.{a_footnote, a_link, a_text, a_wikilink, carried_out, decided, found}
+use Rattle.markdown_brackets.specs.BracketDecision.{inline_target, inline_title, left_for_one, looked_up, past_second}
 use Rattle.markdown_brackets.specs.BracketDecision.{question_at, second_end, wikilink_in}
 use Rattle.markdown_brackets.specs.ClosingBracket.{closed, footnote_onto, put, put_decided, wikilink_target}
 use Rattle.markdown_brackets.specs.LeftList.{Entry, OpenerState, Split, before_footnote, before_link, before_wikilink}
-use Rattle.markdown_brackets.specs.LeftList.{with_entry}
-use Rattle.markdown_brackets.specs.LeftList.{bracket_taken}
-use Rattle.markdown_brackets.specs.LeftList.{change_nearest, disabled_state, done, inside, nearest, on_states}
-use Rattle.markdown_brackets.specs.LeftList.{opens_bracket}
-use Rattle.markdown_brackets.specs.LeftList.{opens_wikilink, second_folded, trees_onto, waits, without_bracket}
-use Rattle.markdown_brackets.specs.LeftList.{without_wikilink, all_done}
+use Rattle.markdown_brackets.specs.LeftList.{with_entry, bracket_taken, change_nearest, disabled_state, done, inside}
+use Rattle.markdown_brackets.specs.LeftList.{nearest, on_states, opens_bracket, opens_wikilink, second_folded}
+use Rattle.markdown_brackets.specs.LeftList.{trees_onto, waits, without_bracket, without_wikilink, all_done}
 use Rattle.markdown_brackets.specs.Lookup.{LookedUp, answered, defined_or_asked, finds_nothing, look_up, size_of}
 use Rattle.markdown_brackets.specs.ReadChain.{begun, closing_of, read, read_as, read_chain, read_past}
 use Rattle.markdown_brackets.proofs.ClosingBracketLemmas.{Stays, all_stays, either, found_cases, some_of}
@@ -49,8 +42,7 @@ use Rattle.markdown_inline.specs.ResolvedShapes.{IsMadeEvent}
 use Rattle.markdown_resolver.specs.PassOne.{bracket_context, pass_one, read_on, read_other}
 use Rattle.markdown_resolver.specs.Resolved.{all_paired, resolved}
 use Rattle.markdown_inline.proofs.EndOrderLemmas.{IsWithin, drop_list, ends_append, ends_drop, ends_mono, ends_onto}
-use Rattle.markdown_inline.proofs.EndOrderLemmas.{keep_list}
-use Rattle.markdown_inline.proofs.EndOrderLemmas.{within_nothing, within_same, within_trans}
+use Rattle.markdown_inline.proofs.EndOrderLemmas.{keep_list, within_nothing, within_same, within_trans}
 use Rattle.markdown_inline.proofs.PairedEndsLemmas.{NumbersNoMarks, all_within, paired_within, text_none}
 
 -- the shapes of which only what look-ups made has numbers; and a property of a list and a limit, which stays true where

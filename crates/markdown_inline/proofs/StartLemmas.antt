@@ -1,8 +1,7 @@
 -- A walk at the start of a whole block result.
 use Rattle.markdown_base.specs.declared.item.ItemBody.TheVariants as body
-use Rattle.std.proofs.Common.{not, ◌≡◌, ◌≤◌, ℕ, ◌+◌, Bool, true, false, ◌||◌, ◌&&◌, List, [], ◌++◌, Option, Some, None}
-use Rattle.std.proofs.Common.{Result, Ok, Err}
-use Rattle.std.proofs.Common.{refl, ap, ◌∙◌, arith}
+use Rattle.std.proofs.Common.{not, ◌≡◌, ◌≤◌, ℕ, ◌+◌, Bool, true, false, ◌||◌, List, [], ◌++◌, Option, Some, None}
+use Rattle.std.proofs.Common.{Result, Ok, Err, refl, ap, ◌∙◌, arith}
 use Rattle.std.specs.Prelude.{IfOk, if◌then◌else◌, IsTrue, nat_eq, is_some, slice_range}
 use Rattle.std.proofs.Math.Path.{fun_ext}
 use Rattle.markdown_base.specs.CowText.{text_of}
@@ -20,20 +19,21 @@ use Rattle.std.proofs.lemmas.List.Elements.{filter_map-append}
 use Rattle.std.proofs.lemmas.Map.Keys.{IsDistinct-tail}
 use Rattle.markdown_base.specs.Arena.{Arena, child_of, sibling_of}
 use Rattle.markdown_base.specs.ArenaForest.{links_of, Spells, numbers_below}
-use Rattle.std.specs.Option.{option_map}
+use Rattle.std.proofs.lemmas.Bool.{or_right}
 use Rattle.markdown_document.specs.ItemRules.{ComesBefore}
 use Rattle.markdown_base.specs.BlockTree.{Numbered, numbered, item_at, tree_of}
 use Rattle.markdown_base.specs.Forest.{Forest, nil, node, Each, Throughout, preorder, first_root, relabelled}
 use Rattle.markdown_base.specs.Item.{alignments_named, is_childless, is_inline, is_open, is_resolved, text_named}
 use Rattle.markdown_base.specs.WellFormed.{InlineInOrder, PartCounts, KeepsRules, IsWellFormed, PartsAreNamed}
-use Rattle.markdown_base.specs.WellFormed.{counts_of, all_named}
-use Rattle.markdown_base.specs.WellFormed.{has_open, all_inline}
+use Rattle.markdown_base.specs.WellFormed.{counts_of, all_named, has_open, all_inline}
 use Rattle.markdown_base.specs.declared.block_parts.BlockParts.{BlockParts}
 use Rattle.markdown_base.specs.declared.item.Item.{Item}
 use Rattle.markdown_base.specs.declared.item.ItemBody.{ItemBody}
 use Rattle.markdown_base.specs.declared.node.Node.{Node}
 use Rattle.markdown_base.proofs.ForestLemmas.{Throughout-weaker, relabelled-Throughout, relabelled-relabelled}
 use Rattle.markdown_base.specs.Questions.{Answers}
+use Rattle.markdown_base.proofs.BoolLemmas.{and_first, and_second}
+use Rattle.markdown_base.proofs.ArenaRulesLemmas.{first_spelled}
 use Rattle.markdown_blocks.specs.Blocks.{IsBlocksOf, block_arena, block_parts, block_source, text_of_blocks}
 use Rattle.markdown_blocks.specs.declared.blocks.Blocks.{Blocks}
 use Rattle.markdown_inline.specs.ParserLeft.{elements, rules_of, reading_of, expansion_limit, ReadsBlocks, ReadsText}
@@ -126,12 +126,6 @@ starts_once source nodes parts (some_alignments n) w placed =
           w.each_alignments_once,
     )
 
--- what a link leads to comes first in what it spells, and what spells nothing is no link
-following_root : (nodes : List (Node Item)) (l : Option ℕ) (f : Forest ℕ) → Spells (links_of nodes) l f
-    → option_map (numbered nodes) l ≡ first_root (relabelled (numbered nodes) f)
-following_root nodes l nil s = rw s refl
-following_root nodes l (node ix below after) s = rw s.0 refl
-
 no_child : (nodes : List (Node Item)) (l : Option ℕ) (f : Forest ℕ) → Spells (links_of nodes) l f
     → relabelled (numbered nodes) f ≡ nil
     → l ≡ None
@@ -173,7 +167,7 @@ each_placed source counts tables nodes l (node ix below after) s w named =
         slices = unresolved_slices source tables (origin_start source (item_at nodes ix).start) (item_at nodes ix).end
             (item_at nodes ix).body
             k.nothing_resolved;
-        keeps = rw (following_root nodes (sibling_of nodes ix) after s.3) (record {
+        keeps = rw (first_spelled nodes (sibling_of nodes ix) after s.3) (record {
           in_order = in_order_from source counts (numbered nodes ix) (relabelled (numbered nodes) after)
               k.nothing_resolved w.2
               k.inline_in_order;
@@ -198,14 +192,6 @@ nothing_below : (source : List ℕ) (tables : Tables) (nodes : List (Node Item))
 nothing_below source tables nodes nil h = tt
 nothing_below source tables nodes (node ix below after) h = cc h
 
-and_left : (a b : Bool) → (a && b) ≡ true → a ≡ true
-and_left true b h = refl
-and_left false b h = h
-
-and_right : (a b : Bool) → (a && b) ≡ true → b ≡ true
-and_right true b h = h
-and_right false b h = cc h
-
 -- an inline item is no block
 inline_no_block : (b : ItemBody) → is_inline b ≡ true → is_some (block_of b) ≡ false
 inline_no_block b h = rw h refl
@@ -220,10 +206,10 @@ quiet_inline : (source : List ℕ) (tables : Tables) (nodes : List (Node Item)) 
     → IsQuietBelow (relabelled (tree_node_at source tables nodes) f)
 quiet_inline source tables nodes nil c h = tt
 quiet_inline source tables nodes (node ix below after) c h =
-    let here = and_left (is_inline (item_at nodes ix).body) (all_inline (relabelled (numbered nodes) after)) h in (
+    let here = and_first (is_inline (item_at nodes ix).body) (all_inline (relabelled (numbered nodes) after)) h in (
       inline_no_block (item_at nodes ix).body here,
       nothing_below source tables nodes below (c.0 (childless-inline (item_at nodes ix).body here)),
-      quiet_inline source tables nodes after c.2 (and_right (is_inline (item_at nodes ix).body)
+      quiet_inline source tables nodes after c.2 (and_second (is_inline (item_at nodes ix).body)
           (all_inline (relabelled (numbered nodes) after)) h),
     )
 
@@ -244,8 +230,8 @@ unmade_inline source tables nodes nil h = tt
 unmade_inline source tables nodes (node ix below after) h =
     let item = item_at nodes ix in
     let rest = all_inline (relabelled (numbered nodes) after) in (
-      inline_unmade tables (slice_range source item.start item.end) item.body (and_left (is_inline item.body) rest h),
-      unmade_inline source tables nodes after (and_right (is_inline item.body) rest h),
+      inline_unmade tables (slice_range source item.start item.end) item.body (and_first (is_inline item.body) rest h),
+      unmade_inline source tables nodes after (and_second (is_inline item.body) rest h),
     )
 
 unread_inline : (source : List ℕ) (tables : Tables) (nodes : List (Node Item)) (f : Forest ℕ)
@@ -253,12 +239,8 @@ unread_inline : (source : List ℕ) (tables : Tables) (nodes : List (Node Item))
 unread_inline source tables nodes nil h = tt
 unread_inline source tables nodes (node ix below after) h =
     let item = item_at nodes ix in
-    let later = and_right (is_inline item.body) (all_inline (relabelled (numbered nodes) after)) h in
+    let later = and_second (is_inline item.body) (all_inline (relabelled (numbered nodes) after)) h in
     (λ read. unmade_inline source tables nodes after later, unread_inline source tables nodes after later)
-
-or_more : (a b : Bool) → b ≡ true → (a || b) ≡ true
-or_more true b h = refl
-or_more false b h = h
 
 abbrev InlineOnly : Forest Numbered → Type 0
 InlineOnly f = Throughout (λ a below after. IsTrue (has_open below) → IsTrue (all_inline below)) f
@@ -280,8 +262,8 @@ kept_from source tables nodes (node ix below after) c i h =
           ),
       kept_from source tables nodes below c.1 i.1 i.0,
       kept_from source tables nodes after c.2 i.2
-          (λ o. and_right (is_inline item.body) (all_inline (relabelled (numbered nodes) after))
-          (h (or_more (is_open item.body) (has_open (relabelled (numbered nodes) after)) o))),
+          (λ o. and_second (is_inline item.body) (all_inline (relabelled (numbered nodes) after))
+          (h (or_right (is_open item.body) (has_open (relabelled (numbered nodes) after)) o))),
     )
 
 -- the walk is before the first block

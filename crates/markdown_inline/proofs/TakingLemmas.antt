@@ -2,8 +2,7 @@
 use Rattle.markdown_base.specs.declared.item.ItemBody.TheVariants as body
 use Rattle.markdown_inline.specs.declared.bodies.Visit.TheVariants as visit
 use Rattle.std.proofs.Common.{◌≡◌, ℕ, zero, suc, ◌-◌, ◌<◌, ◌≤◌, List, [], ◌∷◌, Option, Some, None, length, refl, sym}
-use Rattle.std.proofs.Common.{ap, subst, arith}
-use Rattle.std.proofs.Common.{get_or, set, true, false}
+use Rattle.std.proofs.Common.{ap, subst, arith, get_or, set, true, false}
 use Rattle.std.specs.Prelude.{IfSome, is_some, slice_range}
 use Rattle.std.specs.Borrow.{Bor}
 use Rattle.std.specs.declared.alloc.Global.{Global}
@@ -34,8 +33,8 @@ use Rattle.markdown_document.specs.PlacedNodes.{IsSlicedOf, HasSliceLink}
 use Rattle.markdown_document.specs.Document.{Shape, leaf, enclosed, plain, backslash_break, unresolved, sliced, made}
 use Rattle.markdown_document.specs.Document.{shape_of}
 use Rattle.markdown_document.specs.Places.{origin_start}
-use Rattle.markdown_document.specs.Tables.{Tables, text_at, link_at, link_origins, titles_at, alignments_at}
-use Rattle.markdown_document.specs.Tables.{heading_at, heading_with, tables_of}
+use Rattle.markdown_document.specs.Tables.{Tables, text_at, link_at, link_origins, titles_at, alignments_at, heading_at}
+use Rattle.markdown_document.specs.Tables.{heading_with, tables_of}
 use Rattle.markdown_document.specs.NamedEntries.{Named, some_text, some_link, some_alignments, link_origins_at}
 use Rattle.markdown_document.specs.NamedEntries.{link_named, size_for, NamesEntries, IsSameEntry, times_named}
 use Rattle.markdown_document.specs.Totals.{same}

@@ -12,8 +12,7 @@ use Rattle.markdown_delims.specs.Pairing.{NothingOpen}
 use Rattle.markdown_document.specs.EnclosingBlocks.{EnclosingBlocks, inside_node, no_blocks}
 use Rattle.markdown_document.specs.ChainRest.{joined_chains}
 use Rattle.markdown_document.specs.Document.{Shape, leaf, enclosed, plain, backslash_break, unresolved, is_unresolved}
-use Rattle.markdown_document.specs.Document.{Plain}
-use Rattle.markdown_document.specs.Document.{document, no_notes}
+use Rattle.markdown_document.specs.Document.{Plain, document, no_notes}
 use Rattle.markdown_document.specs.Setting.{ReferenceState, Setting, setting_of}
 use Rattle.markdown_document.specs.Tables.{tables_at_start}
 use Rattle.markdown_inline.specs.Elements.{Element, Placed, Reading, event, events_of, nothing_read, question}
@@ -21,8 +20,7 @@ use Rattle.markdown_inline.specs.Elements.{questions_of, then_reads}
 use Rattle.markdown_inline.specs.ParserLeft.{state_at_start, reading_of, rules_of}
 use Rattle.markdown_inline.specs.Reading.{chain_reading, reading_opened, reading, closed_reading}
 use Rattle.markdown_inline.specs.ResolvedDocument.{Resolution, Resolving, resolved_blocks, resolved_chain}
-use Rattle.markdown_inline.specs.ResolvedDocument.{resolved_document}
-use Rattle.markdown_inline.specs.ResolvedDocument.{resolved_tree}
+use Rattle.markdown_inline.specs.ResolvedDocument.{resolved_document, resolved_tree}
 use Rattle.markdown_inline.specs.TreeReading.{SplitLaw, TreeLaw, events_in, tree_events}
 use Rattle.markdown_inline.proofs.RunLemmas.{events_of-questions, questions_of-questions}
 use Rattle.markdown_resolver.specs.PassOne.{Outcome}

@@ -1,7 +1,7 @@
 -- What is left of a walk, before and after a move over, into or out of a node.
 use Rattle.markdown_base.specs.declared.item.ItemBody.TheVariants as body
-use Rattle.std.proofs.Common.{◌≡◌, ℕ, zero, suc, ◌+◌, ◌-◌, ◌<◌, ◌≤◌, Bool, true, false, List, [], ◌∷◌, ◌++◌}
-use Rattle.std.proofs.Common.{Option, Some, None, refl, arith, ap, sym, ◌∙◌}
+use Rattle.std.proofs.Common.{◌≡◌, ℕ, zero, suc, ◌+◌, ◌-◌, ◌<◌, ◌≤◌, true, false, List, [], ◌∷◌, ◌++◌, Option, Some}
+use Rattle.std.proofs.Common.{None, refl, arith, ap, sym, ◌∙◌}
 use Rattle.std.specs.Prelude.{slice_range}
 use Rattle.markdown_base.specs.Arena.{child_of, sibling_of}
 use Rattle.markdown_base.specs.ArenaForest.{Links, links_of, forest_at}
@@ -31,11 +31,12 @@ use Rattle.markdown_document.specs.PlacedNodes.{IsPlaced}
 use Rattle.markdown_document.specs.Totals.{total, same, weight_at}
 use Rattle.markdown_document.specs.NamedEntries.{naming, Named}
 use Rattle.markdown_document.specs.Tables.{Tables, heading_at, heading_for}
-use Rattle.markdown_inline.specs.WalkTotals.{climbed, left_total, one_if, waits_at, steps_of}
+use Rattle.markdown_inline.specs.WalkTotals.{climbed, left_total, waits_at, steps_of}
 use Rattle.markdown_inline.specs.Standing.{AboveKept, Stands, named_left}
 use Rattle.markdown_document.specs.Document.{no_notes, Origin, Shape, leaf, enclosed, plain, backslash_break}
 use Rattle.markdown_document.specs.Document.{unresolved, shape_of}
 use Rattle.markdown_document.proofs.PlaceLemmas.{some_weight}
+use Rattle.markdown_delims.proofs.PairingLemmas.{one_at_most}
 
 -- a walk went from l below spine to m below deeper, and gave these events
 pub record Moves (s : Setting) (tables : Tables) (nodes : List (Node Item)) (l : Option ℕ) (spine : List ℕ)
@@ -45,14 +46,10 @@ pub record Moves (s : Setting) (tables : Tables) (nodes : List (Node Item)) (l :
       ≡ events_first given (left_of s tables nodes m deeper state)
   pub falls : steps_of nodes m deeper < steps_of nodes l spine
 
-one_once : (waits : Bool) → one_if waits ≤ 1
-one_once true = omega arith
-one_once false = omega arith
-
 -- a chain that waits is one step
 waits_once : (nodes : List (Node Item)) (l : Option ℕ) → waits_at nodes l ≤ 1
 waits_once nodes None = omega arith
-waits_once nodes (Some ix) = one_once (is_open (item_at nodes ix).body)
+waits_once nodes (Some ix) = one_at_most (is_open (item_at nodes ix).body)
 
 -- one more node is entered
 AllReach-snoc : (k : Links) (p : ℕ → Type 0) (spine : List ℕ) (ix : ℕ) → AllReach k p spine → ix < k.size

@@ -1,8 +1,7 @@
 -- The moves of a walk, over the tree and the tables of a program.
 use Rattle.std.proofs.Common.{◌≡◌, ℕ, ◌+◌, ◌<◌, ◌≤◌, false, List, [], ◌∷◌, ◌++◌, Option, Some, None, length, refl}
-use Rattle.std.proofs.Common.{arith, Bool}
+use Rattle.std.proofs.Common.{arith, Bool, sym, subst, ap, ap₂, ◌∙◌, map}
 use Rattle.std.specs.Prelude.{slice_range}
-use Rattle.std.proofs.Common.{sym, subst, ap, ap₂, ◌∙◌, map}
 use Rattle.std.proofs.lemmas.List.{length-map, map-append}
 use Rattle.markdown_inline.specs.declared.bodies.Visit.TheVariants as visit
 use Rattle.markdown_base.specs.Syntax.{commonmark}
@@ -35,8 +34,7 @@ use Rattle.markdown_inline.proofs.TakingLemmas.{leaf_shape, some_leaf, some_tag,
 use Rattle.markdown_inline.proofs.TakingLemmas.{takes_nothing}
 use Rattle.markdown_inline.proofs.LeftFrameLemmas.{left_framed}
 use Rattle.markdown_inline.proofs.WalkLemmas.{Moves, moves_on, moves_past, moves_in, moves_past_in, moves_in_plain}
-use Rattle.markdown_inline.proofs.WalkLemmas.{moves_out, left_of-end}
-use Rattle.markdown_inline.proofs.WalkLemmas.{steps-some, steps-end, stands-end, AllReach-last}
+use Rattle.markdown_inline.proofs.WalkLemmas.{moves_out, left_of-end, steps-some, steps-end, stands-end, AllReach-last}
 
 -- the bytes of an item's range
 abbrev pub over : List ℕ → Item → List ℕ

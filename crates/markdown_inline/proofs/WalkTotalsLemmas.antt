@@ -1,7 +1,6 @@
 -- What is left of a walk weighs at most four for each node of the arena, since no node occurs twice in it.
 use Rattle.std.proofs.Common.{◌≡◌, ℕ, zero, suc, ◌+◌, ◌*◌, ◌<◌, ◌≤◌, Bool, true, false, List, [], ◌∷◌, length, Option}
-use Rattle.std.proofs.Common.{Some, None}
-use Rattle.std.proofs.Common.{refl, arith}
+use Rattle.std.proofs.Common.{Some, None, refl, arith}
 use Rattle.markdown_base.specs.ArenaForest.{Links, Spells, links_of, forest_at}
 use Rattle.markdown_base.specs.ArenaWalk.{AllReach}
 use Rattle.markdown_base.specs.BlockTree.{item_at}

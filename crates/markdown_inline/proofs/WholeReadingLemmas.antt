@@ -1,7 +1,6 @@
 -- In the tree of a whole document no leaf is a Start or an End, no link is in a link, and what was looked up expands to
 -- few bytes.
-use Rattle.std.proofs.Common.{◌≡◌, ℕ, Bool, true, false, List, [], ◌∷◌, ◌++◌, refl, sym, subst, ap, ◌∙◌}
-use Rattle.std.proofs.Common.{arith, map}
+use Rattle.std.proofs.Common.{◌≡◌, ℕ, Bool, true, false, List, [], ◌∷◌, ◌++◌, refl, sym, subst, ap, ◌∙◌, arith, map}
 use Rattle.std.specs.Prelude.{⊤, if◌then◌else◌}
 use Rattle.std.proofs.lemmas.List.{map-append}
 use Rattle.std.specs.declared.ops.Range.{Range}
@@ -18,8 +17,8 @@ use Rattle.markdown_blocks.specs.declared.blocks.Blocks.{Blocks}
 use Rattle.markdown_document.specs.EnclosingBlocks.{EnclosingBlocks, inside_node, no_blocks}
 use Rattle.markdown_document.specs.ChainRest.{cut_event, cut_shape, without_first}
 use Rattle.markdown_document.specs.Document.{Origin, sliced, inlined, made, Shape, leaf, enclosed, plain}
-use Rattle.markdown_document.specs.Document.{backslash_break, unresolved, TreeNode, Plain}
-use Rattle.markdown_document.specs.Document.{no_notes, document, tree_node_of, shape_of}
+use Rattle.markdown_document.specs.Document.{backslash_break, unresolved, TreeNode, Plain, no_notes, document}
+use Rattle.markdown_document.specs.Document.{tree_node_of, shape_of}
 use Rattle.markdown_document.specs.Setting.{Setting, ReferenceState, setting_of}
 use Rattle.markdown_document.specs.Tables.{Tables, tables_at_start}
 use Rattle.markdown_delims.proofs.SumLemmas.{sum_of}
@@ -32,8 +31,7 @@ use Rattle.markdown_inline.specs.LimitLaw.{tag_expansion}
 use Rattle.markdown_inline.specs.LookUps.{is_looked_up}
 use Rattle.markdown_inline.specs.ParserLeft.{state_at_start, reading_of, rules_of}
 use Rattle.markdown_inline.specs.ResolvedDocument.{Resolution, Resolving, no_trees, resolved_blocks, resolved_chain}
-use Rattle.markdown_inline.specs.ResolvedDocument.{resolved_document}
-use Rattle.markdown_inline.specs.ResolvedDocument.{resolved_tree, tree_then}
+use Rattle.markdown_inline.specs.ResolvedDocument.{resolved_document, resolved_tree, tree_then}
 use Rattle.markdown_inline.specs.ResolvedShapes.{IsMadeEvent}
 use Rattle.markdown_inline.specs.TreeReading.{BlockTreeLaw, GivesBoth, IsLone, events_in, tree_events}
 use Rattle.markdown_inline.proofs.LinksApartLemmas.{resolved_apart}

@@ -1,12 +1,10 @@
 -- The last character of a text, and flags of delimiters in small texts.
 use Rattle.std.proofs.Common.{◌≡◌, ℕ, ◌≤◌, List, [], ◌∷◌, ◌++◌, Option, Some, None, length, reverse, take, drop}
-use Rattle.std.proofs.Common.{slice_get, refl, sym, ap}
-use Rattle.std.proofs.Common.{subst, ◌∙◌, arith, append-nil, length-append, take_at, drop_at}
+use Rattle.std.proofs.Common.{slice_get, refl, sym, ap, subst, ◌∙◌, arith, append-nil, length-append, take_at, drop_at}
 use Rattle.std.proofs.lemmas.List.{reverse-append, nil_from_length}
 use Rattle.std.proofs.lemmas.Str.{chars-nil, chars-append, chars_past_char, IsCharBoundary-from_take, IsUtf8-drop}
-use Rattle.std.specs.Prelude.{encode_utf8, MatchOption}
+use Rattle.std.specs.Prelude.{encode_utf8, MatchOption, true, false}
 use Rattle.std.specs.Str.{chars, IsUtf8}
-use Rattle.std.specs.Prelude.{true, false}
 use Rattle.markdown_items.specs.Flanking.{flags_of}
 
 -- if a text is followed by more bytes in a text, these are text

@@ -1,7 +1,6 @@
 -- Where the bytes that begin items end: between characters.
 use Rattle.std.proofs.Common.{◌≡◌, ◌≢◌, ℕ, zero, suc, ◌+◌, ◌-◌, ◌<◌, ◌≤◌, List, Bool, true, false, Option, Some, None}
-use Rattle.std.proofs.Common.{length, get_or}
-use Rattle.std.proofs.Common.{refl, sym, ap, ◌∙◌, arith, slice_range, slice_index}
+use Rattle.std.proofs.Common.{length, get_or, refl, sym, ap, ◌∙◌, arith, slice_range, slice_index}
 use Rattle.std.proofs.lemmas.Bool.Decides.{nat_tests}
 use Rattle.std.proofs.lemmas.List.Sums.{prefix_len_is}
 use Rattle.std.proofs.lemmas.Option.{same_Some}
@@ -9,6 +8,7 @@ use Rattle.std.proofs.lemmas.Str.{IsCharBoundary-after_ascii}
 use Rattle.std.specs.Prelude.{IfSome, option_map, ◌==◌, codes}
 use Rattle.std.specs.List.{prefix_len}
 use Rattle.std.specs.Str.{IsUtf8, IsCharBoundary}
+use Rattle.std.proofs.lemmas.Bool.{eq-eqb}
 use Rattle.markdown_base.proofs.ByteListLemmas.{byte_of_part, part_length}
 use Rattle.markdown_scan.proofs.BeginsWithLemmas.{begins_with-fits, begins_with-reads}
 use Rattle.markdown_scan.specs.Beginnings.{begins_with}
@@ -122,10 +122,6 @@ pub entity_none_is : (at : ℕ) (found : Option (ℕ × List ℕ)) → None ≡ 
 entity_none_is at None e = refl
 entity_none_is at (Some r) e = cc
 
--- a number that equals itself
-same_eq : (a b : ℕ) → a ≡ b → (a == b) ≡ true
-same_eq a b e = grind (arith, nat_tests)
-
 other_eq : (a b : ℕ) → a ≢ b → (a == b) ≡ false
 other_eq a b e = grind (arith, nat_tests)
 
@@ -139,7 +135,7 @@ run_end_is text at end stop le whole =
     let part = slice_range text at end in
     let size = part_length text at end le in
     let first : (k : ℕ) → k < stop - at → (get_or part k 0 == get_or text at 0) ≡ true = λ k h.
-    same_eq _ _ (byte_of_part text at end k (omega (arith, h, within))
+    eq-eqb _ _ (byte_of_part text at end k (omega (arith, h, within))
     ∙ run.same (at + k) (omega arith) (omega (arith, h))) in
     let n : at + (stop - at) ≡ stop = omega (arith, more) in
     let same : stop < end → get_or part (stop - at) 0 ≡ get_or text stop 0 = λ h.

@@ -1,6 +1,6 @@
 -- What is made of a line so far, with what is still to be read of it, is the same after each step.
-use Rattle.std.proofs.Common.{◌≡◌, ◌≢◌, ℕ, zero, suc, ◌+◌, ◌-◌, ◌<◌, ◌≤◌, List, [], ◌∷◌, ◌++◌, Option, Some, None}
-use Rattle.std.proofs.Common.{Bool, true, false, append_assoc, append-nil, refl, sym, ap, ◌∙◌, arith}
+use Rattle.std.proofs.Common.{◌≡◌, ◌≢◌, ℕ, zero, suc, ◌+◌, ◌-◌, ◌<◌, ◌≤◌, List, [], ◌∷◌, ◌++◌, Option, Some, None, Bool}
+use Rattle.std.proofs.Common.{true, false, append_assoc, append-nil, refl, sym, ap, ◌∙◌, arith}
 use Rattle.std.specs.Prelude.{slice_index, nat_lt, if◌then◌else◌}
 use Rattle.std.proofs.lemmas.Bool.Decides.{nat_tests}
 use Rattle.std.proofs.lemmas.Option.{same_Some}
@@ -15,8 +15,7 @@ use Rattle.markdown_items.specs.declared.found.Found.TheVariants as found
 use Rattle.markdown_items.specs.declared.found.LineRange.{LineRange}
 use Rattle.markdown_items.specs.ContentItems.{AddsItems, AddsTexts, content_items, items_read_from, text_between}
 use Rattle.markdown_items.specs.Found.{found_at}
-use Rattle.markdown_items.specs.FoundFits.{FoundFits, levels_after, next_after, run_after_text}
-use Rattle.markdown_items.specs.FoundFits.{view_after}
+use Rattle.markdown_items.specs.FoundFits.{FoundFits, levels_after, next_after, run_after_text, view_after}
 use Rattle.markdown_items.specs.FoundItems.{found_items, text_from, read_on}
 use Rattle.markdown_items.specs.FoundView.{found_view}
 use Rattle.markdown_items.specs.LineItems.{is_special, IsFirstSpecial}

@@ -1,54 +1,43 @@
 -- Bytes that are tested together.
 use Rattle.std.proofs.Common.{◌≡◌, ℕ, ◌+◌, ◌-◌, ◌<◌, ◌≤◌, List, [], ◌∷◌, Bool, true, false, length, get_or, refl, sym}
-use Rattle.std.proofs.Common.{ap, ◌∙◌}
-use Rattle.std.proofs.Common.{arith, slice_range, slice_index, ⊎_elim, inl, inr}
-use Rattle.std.proofs.lemmas.Bool.{cases_lt}
+use Rattle.std.proofs.Common.{ap, ◌∙◌, arith, slice_range, slice_index, ⊎_elim, inl, inr}
+use Rattle.std.proofs.lemmas.Bool.{or_from, and_parts, cases_lt}
 use Rattle.std.proofs.lemmas.Bool.Decides.{eqb_tells}
-use Rattle.std.specs.Prelude.{◌||◌, ◌&&◌, ◌==◌, not, min, codes}
+use Rattle.std.specs.Prelude.{◌&&◌, ◌==◌, not, min, codes}
 use Rattle.std.specs.List.{list_all, list_any}
+use Rattle.std.proofs.Math.Bool.{and-false}
 use Rattle.markdown_base.proofs.ByteListLemmas.{byte_of_part, part_length}
 use Rattle.markdown_items.specs.LineItems.{special_bytes, is_dash_byte, is_special, is_plain, IsFirstSpecial}
-
-both_pass : (x y : Bool) → (x && y) ≡ true → (x ≡ true) × (y ≡ true)
-both_pass true y h = (refl, h)
-both_pass false y h = cc
 
 -- a byte that passes a test is not one of the bytes that fail it
 never : (test : ℕ → Bool) (marks : List ℕ) (byte : ℕ) → list_all (λ b. not (test b)) marks ≡ true → test byte ≡ true
     → list_any (λ b. b == byte) marks ≡ false
 never test [] byte all h = refl
 never test (m ∷ ms) byte all h =
-    let both = both_pass (not (test m)) (list_all (λ b. not (test b)) ms) all in
+    let both = and_parts (not (test m)) (list_all (λ b. not (test b)) ms) all in
     elim (eqb_tells m byte) [
       | inl same ↦ cc (both.0, ap not (ap test same.1 ∙ h))
       | inr other ↦ rw other.0 (never test ms byte both.1 h)
     ]
 
-none_of_two : (x y : Bool) → x ≡ false → y ≡ false → (x || y) ≡ false
-none_of_two x y p q = rw (p, q) refl
-
 not_both : (x y : Bool) → x ≡ false → (x && y) ≡ false
 not_both x y p = rw p refl
-
-not_second : (x : Bool) → (x && false) ≡ false
-not_second true = refl
-not_second false = refl
 
 -- a plain byte is not special
 plain_is : (dashes : Bool) (byte : ℕ) → is_plain dashes byte ≡ true → is_special dashes byte ≡ false
 plain_is true byte h =
-    none_of_two _ _ (never (is_plain true) special_bytes byte refl h)
+    or_from _ _ (never (is_plain true) special_bytes byte refl h)
     (not_both _ true (never (is_plain true) (codes "-.") byte refl h))
 plain_is false byte h =
-    none_of_two _ _ (never (is_plain false) special_bytes byte refl h) (not_second (is_dash_byte byte))
+    or_from _ _ (never (is_plain false) special_bytes byte refl h) (and-false (is_dash_byte byte))
 
 -- among plain bytes none is special
 pub none_special : (dashes : Bool) (bytes : List ℕ) → list_all (is_plain dashes) bytes ≡ true
     → list_any (is_special dashes) bytes ≡ false
 none_special dashes [] h = refl
 none_special dashes (b ∷ bs) h =
-    let both = both_pass (is_plain dashes b) (list_all (is_plain dashes) bs) h in
-    none_of_two (is_special dashes b) (list_any (is_special dashes) bs) (plain_is dashes b both.0)
+    let both = and_parts (is_plain dashes b) (list_all (is_plain dashes) bs) h in
+    or_from (is_special dashes b) (list_any (is_special dashes) bs) (plain_is dashes b both.0)
     (none_special dashes bs both.1)
 
 -- if no byte before a slice is special, nor any of the first bytes of the slice, none is up to there

@@ -1,12 +1,11 @@
 -- What follows the label of a definition.
 use Rattle.std.proofs.Common.{◌≡◌, ℕ, zero, suc, ◌+◌, ◌-◌, ◌<◌, ◌≤◌, List, [], ◌∷◌, ◌++◌, Bool, true, false, ◌==◌}
-use Rattle.std.proofs.Common.{Option, Some, None, length, drop, refl, sym, ap, ◌∙◌, arith, slice_range}
-use Rattle.std.proofs.Common.{subst, get_or, codes, ⊎_elim}
+use Rattle.std.proofs.Common.{Option, Some, None, length, drop, refl, sym, ap, ◌∙◌, arith, slice_range, subst, get_or}
+use Rattle.std.proofs.Common.{codes, ⊎_elim, Bor, eqb, not}
 use Rattle.std.proofs.lemmas.Bool.{cases_lt, true≢false}
 use Rattle.std.proofs.lemmas.Bool.Decides.{nat_tests}
 use Rattle.std.proofs.lemmas.List.{drop-drop, drop_all, drop_at}
 use Rattle.std.specs.List.{slice_get}
-use Rattle.std.proofs.Common.{Bor, eqb, not}
 use Rattle.std.specs.Option.{option_eq, option_map}
 use Rattle.std.specs.Prelude.{option_and_then, if◌then◌else◌}
 use Rattle.std.specs.Str.{IsCharBoundary, IsUtf8}
@@ -18,8 +17,8 @@ use Rattle.markdown_scan.specs.declared.entity.EntityNames.{EntityNames}
 use Rattle.markdown_lines.specs.DefinitionRules as rules
 use Rattle.markdown_lines.specs.DefinitionRules.{separation, tail_of, with_destination, with_label, with_tail}
 use Rattle.markdown_lines.specs.HeldLines.{AreHeldLines, held_text}
-use Rattle.markdown_lines.specs.HeldPlaces.{IsPast, IsPastColon, IsSpotAfter, count_before, count_to}
-use Rattle.markdown_lines.specs.HeldPlaces.{rest_at, some_destination}
+use Rattle.markdown_lines.specs.HeldPlaces.{IsPast, IsPastColon, IsSpotAfter, count_before, count_to, rest_at}
+use Rattle.markdown_lines.specs.HeldPlaces.{some_destination}
 use Rattle.markdown_lines.specs.HeldTitles.{defined_by, tail_found, title_between}
 use Rattle.markdown_lines.specs.declared.definition.Spot.{Spot}
 use Rattle.markdown_lines.specs.declared.definition.Tail.{Tail}

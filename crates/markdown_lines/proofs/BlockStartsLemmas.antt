@@ -1,7 +1,7 @@
 -- What a line begins, by its first byte: all beginnings that the byte cannot begin are not there.
 use Rattle.std.proofs.Common.{◌≡◌, ◌≢◌, ⊎_elim, ℕ, zero, suc, ◌+◌, ◌-◌, ◌<◌, List, [], ◌∷◌, Bool, true, false, Option}
-use Rattle.std.proofs.Common.{Some, None}
-use Rattle.std.proofs.Common.{length, take, drop, get_or, refl, sym, ◌∙◌, ap, subst, arith, ◌||◌, ◌==◌, codes}
+use Rattle.std.proofs.Common.{Some, None, length, take, drop, get_or, refl, sym, ◌∙◌, ap, subst, arith, ◌||◌, ◌==◌}
+use Rattle.std.proofs.Common.{codes}
 use Rattle.std.proofs.lemmas.Bool.{cases_Bool}
 use Rattle.std.proofs.lemmas.Bool.Decides.{nat_tests}
 use Rattle.std.specs.Prelude.{◌++◌, slice_index, slice_range, unwrap_or, if◌then◌else◌}
@@ -20,8 +20,7 @@ use Rattle.markdown_lines.specs.declared.atx_heading.AtxHeading.{AtxHeading}
 use Rattle.markdown_lines.specs.AtxHeadings.{atx_heading_at, is_hash}
 use Rattle.markdown_lines.specs.BlockBeginnings as line
 use Rattle.markdown_base.specs.Source.{Source}
-use Rattle.markdown_lines.specs.BlockBeginnings.{Beginning, begins, begins_after, first_found, is_paragraph}
-use Rattle.markdown_lines.specs.BlockBeginnings.{is_reached}
+use Rattle.markdown_lines.specs.BlockBeginnings.{Beginning, begins, begins_after, first_found, is_paragraph, is_reached}
 use Rattle.markdown_lines.specs.BlockBeginnings.{quote_in_line, heading_in_line, fence_in_line, html_in_line}
 use Rattle.markdown_lines.specs.BlockBeginnings.{footnote_in_line, underline_in_line, break_in_line, item_in_line}
 use Rattle.markdown_lines.specs.BlockBeginnings.{footnote_marker, item_space, metadata_in_line, past_bytes}

@@ -1,9 +1,8 @@
 -- An opening code fence, by what was counted in its line.
 use Rattle.std.proofs.Common.{◌≡◌, ℕ, zero, suc, ◌+◌, ◌<◌, ◌≤◌, List, Bool, Some, true, length, drop, slice_range, refl}
 use Rattle.std.proofs.Common.{arith}
-use Rattle.std.proofs.lemmas.Bool.Decides.{nat_tests}
 use Rattle.std.specs.List.{list_all, prefix_len}
-use Rattle.std.specs.Prelude.{nat_le}
+use Rattle.std.proofs.lemmas.Bool.{le-leb}
 use Rattle.markdown_lines.specs.declared.fence.Fence.{Fence}
 use Rattle.markdown_lines.specs.CodeFences.{run_length, opens_fence, opening_fence_at, closes_fence}
 use Rattle.markdown_lines.specs.Lines.{is_space_or_tab}
@@ -23,12 +22,9 @@ pub opens_some : (byte count : ℕ) (rest : List ℕ) → opens_fence byte count
 opens_some byte zero rest h = cc
 opens_some byte (suc n) rest h = omega arith
 
-le_test : (a b : ℕ) → a ≤ b → nat_le a b ≡ true
-le_test a b h = grind (arith, nat_tests)
-
 -- a fence that is long enough closes one where only white space follows
 pub closes_is : (text : List ℕ) (at stop : ℕ) (opening : Fence) (line rest : List ℕ) (count : ℕ) (white : Bool)
     → line ≡ slice_range text at stop → rest ≡ drop count line → count ≡ run_length opening.byte line
     → opening.length ≤ count → white ≡ list_all is_space_or_tab rest → white ≡ closes_fence text at stop opening
 closes_is text at stop opening line rest count white l r n h w =
-    rw (← l, ← n, ← r, le_test opening.length count h) w
+    rw (← l, ← n, ← r, le-leb opening.length count h) w

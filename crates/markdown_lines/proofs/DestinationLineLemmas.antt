@@ -1,9 +1,8 @@
 -- A destination ends in its line.
-use Rattle.std.proofs.Common.{◌≡◌, ℕ, suc, ◌+◌, ◌-◌, ◌<◌, ◌≤◌, List, [], ◌∷◌, ◌++◌, Bool, true, false, ◌==◌}
-use Rattle.std.proofs.Common.{Option, Some, None, IfSome, length, drop, take, refl, sym, ap, ◌∙◌, arith}
-use Rattle.std.proofs.Common.{slice_index}
+use Rattle.std.proofs.Common.{◌≡◌, ℕ, suc, ◌+◌, ◌-◌, ◌<◌, ◌≤◌, List, [], ◌∷◌, ◌++◌, Bool, true, false, ◌==◌, Option}
+use Rattle.std.proofs.Common.{Some, None, IfSome, length, drop, take, refl, sym, ap, ◌∙◌, arith, slice_index, ◌≢◌, ◌^◌}
+use Rattle.std.proofs.Common.{slice_range, subst}
 use Rattle.std.proofs.lemmas.Bool.Decides.{nat_tests}
-use Rattle.std.proofs.Common.{◌≢◌, ◌^◌, slice_range, subst}
 use Rattle.std.proofs.lemmas.List.{drop-drop, take-append-drop, take-append-le}
 use Rattle.std.specs.Str.{IsCharBoundary}
 use Rattle.markdown_base.proofs.ByteListLemmas.{part_length}
@@ -16,8 +15,8 @@ use Rattle.std.specs.Prelude.{option_and_then, if◌then◌else◌}
 use Rattle.std.specs.Option.{option_map}
 use Rattle.markdown_scan.specs.AsciiKinds.{is_control_or_space}
 use Rattle.markdown_scan.specs.Backslash.{is_bare}
-use Rattle.markdown_scan.specs.Destination.{angle_length, bare_length, destination}
-use Rattle.markdown_scan.specs.Destination.{end_of_bare, is_past_bare, is_refused, is_too_deep, open_after}
+use Rattle.markdown_scan.specs.Destination.{angle_length, bare_length, destination, end_of_bare, is_past_bare}
+use Rattle.markdown_scan.specs.Destination.{is_refused, is_too_deep, open_after}
 use Rattle.markdown_scan.specs.LineStart.{is_line_over}
 
 -- a length that is found where a line ends, or not at all, and is not more than the bytes of the line

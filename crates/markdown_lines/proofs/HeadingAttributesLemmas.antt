@@ -1,7 +1,7 @@
 -- Words in braces: what is left of them, and what one word more says.
-use Rattle.std.proofs.Common.{◌≡◌, ◌≢◌, ⊎_elim, ℕ, zero, suc, ◌+◌, ◌<◌, List, [], ◌∷◌, Bool, true, false, Option, Some}
-use Rattle.std.proofs.Common.{Bor, None, length, take, drop, get_or, refl, ap, ◌∙◌, arith}
-use Rattle.std.proofs.lemmas.Bool.{cases_Bool}
+use Rattle.std.proofs.Common.{◌≡◌, ◌≢◌, ⊎_elim, ℕ, zero, suc, ◌+◌, ◌<◌, List, [], ◌∷◌, true, false, Option, Some, Bor}
+use Rattle.std.proofs.Common.{None, length, take, drop, get_or, refl, ap, ◌∙◌, arith}
+use Rattle.std.proofs.lemmas.Bool.{not-false, cases_Bool}
 use Rattle.std.proofs.lemmas.Bool.Decides.{nat_tests}
 use Rattle.std.proofs.lemmas.List.Sums.{prefix_len-le-length, prefix_len_stops}
 use Rattle.std.specs.List.{onto_first, position_or_len, slice_split}
@@ -21,17 +21,12 @@ size_left (Some text) = suc (length text.now)
 pub parting_ascii : (byte : ℕ) → parts_words byte ≡ true → byte < 128
 parting_ascii byte h = grind (arith, nat_tests)
 
--- a byte is not a letter of a word
-parts_not : (test : Bool) → not test ≡ false → test ≡ true
-parts_not true h = refl
-parts_not false h = cc
-
 -- where a word ends before the end, an ASCII byte follows it
 pub after_word : (bytes : List ℕ) → position_or_len parts_words bytes < length bytes
     → get_or bytes (position_or_len parts_words bytes) 0 < 128
 after_word bytes less =
     parting_ascii (get_or bytes (position_or_len parts_words bytes) 0)
-    (parts_not (parts_words (get_or bytes (position_or_len parts_words bytes) 0))
+    (not-false (parts_words (get_or bytes (position_or_len parts_words bytes) 0))
     (prefix_len_stops (λ b. not (parts_words b)) bytes 0 less))
 
 pub word_ends : (text bytes : List ℕ) (n : ℕ) → bytes ≡ text → n ≡ position_or_len parts_words bytes

@@ -1,28 +1,23 @@
 -- The lines' text from one place up to another.
-use Rattle.std.proofs.Common.{◌≡◌, ℕ, zero, suc, ◌+◌, ◌-◌, ◌<◌, ◌≤◌, List, [], ◌∷◌, ◌++◌, Bool, true}
-use Rattle.std.proofs.Common.{Some, length, drop, take, sym, ap, ◌∙◌, arith, slice_range, subst}
-use Rattle.std.proofs.Common.{append_assoc}
+use Rattle.std.proofs.Common.{◌≡◌, ℕ, zero, suc, ◌+◌, ◌-◌, ◌<◌, ◌≤◌, List, [], ◌∷◌, ◌++◌, Bool, true, Some, length}
+use Rattle.std.proofs.Common.{drop, take, sym, ap, ◌∙◌, arith, slice_range, subst, append_assoc, get_or, ◌⊎◌, inl, inr}
 use Rattle.std.proofs.lemmas.List.{drop-drop, take-append-le, take-take}
 use Rattle.std.specs.List.{list_all, slice_get}
-use Rattle.std.proofs.Common.{get_or}
 use Rattle.std.proofs.lemmas.Option.{slice_get_within}
 use Rattle.markdown_lines.specs.Lines.{ending_length, is_line_ending}
-use Rattle.markdown_lines.specs.HeldLines.{IsHeldLine}
-use Rattle.markdown_lines.proofs.HeldLinesLemmas.{line_left}
-use Rattle.std.proofs.Common.{◌⊎◌, inl, inr}
-use Rattle.std.proofs.lemmas.Bool.{cases_lt}
+use Rattle.markdown_lines.specs.HeldLines.{IsHeldLine, held_text}
+use Rattle.markdown_lines.proofs.HeldLinesLemmas.{line_left, bounds_of, count_more, count_next, line_of, place_line}
+use Rattle.markdown_lines.proofs.HeldLinesLemmas.{place_rest, rest_is, same_line}
+use Rattle.std.proofs.lemmas.Bool.{and_parts, cases_lt}
 use Rattle.markdown_lines.specs.HeldTitles.{IsTitle, title_between}
-use Rattle.markdown_lines.proofs.TitleLemmas.{both_true, ending_bytes}
+use Rattle.markdown_lines.proofs.TitleLemmas.{ending_bytes}
 use Rattle.std.specs.Str.{IsCharBoundary, IsUtf8}
 use Rattle.markdown_base.proofs.ByteListLemmas.{byte_of_part, part_length}
-use Rattle.markdown_lines.specs.HeldLines.{held_text}
 use Rattle.markdown_lines.specs.HeldPlaces.{IsBetween, IsLineRest, IsNextLine, IsPlace, count_before, count_to}
 use Rattle.markdown_lines.specs.HeldPlaces.{held_between, rest_at}
 use Rattle.markdown_lines.specs.LineBytes.{IsPartOf}
 use Rattle.markdown_lines.specs.declared.definition.Spot.{Spot}
 use Rattle.markdown_lines.specs.declared.held_line.HeldLine.{HeldLine}
-use Rattle.markdown_lines.proofs.HeldLinesLemmas.{bounds_of, count_more, count_next, line_of, place_line, place_rest}
-use Rattle.markdown_lines.proofs.HeldLinesLemmas.{rest_is, same_line}
 use Rattle.markdown_lines.proofs.HeldPlacesLemmas.{next_of}
 use Rattle.markdown_lines.proofs.LinesLemmas.{ending_ascii, past_ascii}
 
@@ -48,9 +43,9 @@ count_rises (first ∷ lines) (suc number) (suc later) at line there low =
 all_at : (test : ℕ → Bool) (bytes : List ℕ) (at : ℕ) → list_all test bytes ≡ true → at < length bytes
     → test (get_or bytes at 0) ≡ true
 all_at test [] at passes less = absurd (omega (arith, less))
-all_at test (b ∷ bytes) zero passes less = (both_true (test b) (list_all test bytes) passes).0
+all_at test (b ∷ bytes) zero passes less = (and_parts (test b) (list_all test bytes) passes).0
 all_at test (b ∷ bytes) (suc at) passes less =
-    all_at test bytes at (both_true (test b) (list_all test bytes) passes).1 (omega (arith, less))
+    all_at test bytes at (and_parts (test b) (list_all test bytes) passes).1 (omega (arith, less))
 
 pub ending_byte : (text : List ℕ) (line : HeldLine) → IsHeldLine text line → (at : ℕ) → line.stop ≤ at
     → at < line.next → is_line_ending (get_or text at 0) ≡ true

@@ -1,9 +1,7 @@
 -- The label of a definition, line by line.
-use Rattle.std.proofs.Common.{◌≡◌, ℕ, suc, ◌+◌, ◌*◌, ◌<◌, ◌≤◌, List, [], ◌∷◌, ◌++◌, Bool, true, false}
-use Rattle.std.proofs.Common.{Option, Some, None, IfSome, length, drop, take, refl, sym, ap, ◌∙◌, arith, subst, ◌==◌}
-use Rattle.std.proofs.Common.{not}
-use Rattle.std.proofs.Common.{get_or, codes, append_assoc, count_by}
-use Rattle.std.proofs.Common.{◌⊎◌, inl, inr}
+use Rattle.std.proofs.Common.{◌≡◌, ℕ, suc, ◌+◌, ◌*◌, ◌<◌, ◌≤◌, List, [], ◌∷◌, ◌++◌, Bool, true, false, Option, Some}
+use Rattle.std.proofs.Common.{None, IfSome, length, drop, take, refl, sym, ap, ◌∙◌, arith, subst, ◌==◌, not, get_or}
+use Rattle.std.proofs.Common.{codes, append_assoc, count_by, ◌⊎◌, inl, inr}
 use Rattle.std.proofs.Math.Utf8.{encode, encodes}
 use Rattle.std.proofs.lemmas.Bool.Decides.{nat_tests}
 use Rattle.std.proofs.lemmas.List.{drop_more, length-append, take-append-drop, take_all, take_more}
@@ -14,8 +12,8 @@ use Rattle.std.specs.Prelude.{option_and_then, if◌then◌else◌}
 use Rattle.std.specs.Str.{IsUtf8, chars}
 use Rattle.markdown_scan.specs.Backslash.{is_bare}
 use Rattle.markdown_scan.specs.Beginnings.{begins_with}
-use Rattle.markdown_scan.specs.Label.{begins_character, body, fits_label, kept, label_bytes}
-use Rattle.markdown_scan.specs.Label.{collapse_whitespace, put_before, with_shown}
+use Rattle.markdown_scan.specs.Label.{begins_character, body, fits_label, kept, label_bytes, collapse_whitespace}
+use Rattle.markdown_scan.specs.Label.{put_before, with_shown}
 use Rattle.markdown_scan.specs.LinePrefix.{ends_line}
 use Rattle.markdown_scan.specs.LineStart.{is_line_over}
 use Rattle.markdown_scan.proofs.LabelLemmas.{put_before_none, put_before_twice}

@@ -1,11 +1,10 @@
 -- Lines of a paragraph as one text: what is left of it from a place in one of them on.
 use Rattle.std.proofs.Common.{◌≡◌, ℕ, zero, suc, ◌+◌, ◌-◌, ◌<◌, ◌≤◌, List, [], ◌∷◌, ◌++◌, Bool, true, false, ◌==◌}
-use Rattle.std.proofs.Common.{get_or}
-use Rattle.std.proofs.Common.{Some, None, length, drop, take, refl, sym, ap, ◌∙◌, arith, slice_range, subst}
+use Rattle.std.proofs.Common.{get_or, Some, None, length, drop, take, refl, sym, ap, ◌∙◌, arith, slice_range, subst}
 use Rattle.std.proofs.Common.{slice_index, append_assoc, ⊎_elim}
 use Rattle.std.proofs.lemmas.Bool.Decides.{nat_tests}
-use Rattle.std.proofs.lemmas.List.{drop-drop, drop_at, drop-append-le, length-drop}
-use Rattle.std.proofs.lemmas.List.{take-append-drop, take-take, drop_all, drop_more}
+use Rattle.std.proofs.lemmas.List.{drop-drop, drop_at, drop-append-le, length-drop, take-append-drop, take-take}
+use Rattle.std.proofs.lemmas.List.{drop_all, drop_more}
 use Rattle.std.specs.List.{list_all, prefix_len, slice_get}
 use Rattle.markdown_base.proofs.ByteListLemmas.{byte_of_part, part_length}
 use Rattle.markdown_scan.specs.LineEnd.{begins_line_feed}

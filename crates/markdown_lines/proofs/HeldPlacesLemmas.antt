@@ -1,7 +1,6 @@
 -- From a place in the lines of a paragraph past white space.
 use Rattle.std.proofs.Common.{◌≡◌, ℕ, zero, suc, ◌+◌, ◌-◌, ◌<◌, ◌≤◌, List, [], ◌∷◌, ◌++◌, Bool, true, false, ◌==◌}
-use Rattle.std.proofs.Common.{get_or}
-use Rattle.std.proofs.Common.{Some, length, drop, refl, sym, ap, ◌∙◌, arith, slice_range, subst}
+use Rattle.std.proofs.Common.{get_or, Some, length, drop, refl, sym, ap, ◌∙◌, arith, slice_range, subst}
 use Rattle.std.proofs.lemmas.Bool.{true≢false}
 use Rattle.std.proofs.lemmas.Bool.Decides.{nat_tests}
 use Rattle.std.proofs.lemmas.List.{drop_all, length-append, length-drop}
@@ -16,8 +15,8 @@ use Rattle.markdown_lines.specs.HeldPlaces.{IsPast, IsPlace, count_before, count
 use Rattle.markdown_lines.specs.Lines.{ending_length, is_line_ending, is_space_or_tab}
 use Rattle.markdown_lines.specs.declared.definition.Spot.{Spot}
 use Rattle.markdown_lines.specs.declared.held_line.HeldLine.{HeldLine}
-use Rattle.markdown_lines.proofs.HeldLinesLemmas.{after_line, bounds_of, count_more, count_next, line_left}
-use Rattle.markdown_lines.proofs.HeldLinesLemmas.{place_line, place_rest, same_line}
+use Rattle.markdown_lines.proofs.HeldLinesLemmas.{after_line, bounds_of, count_more, count_next, line_left, place_line}
+use Rattle.markdown_lines.proofs.HeldLinesLemmas.{place_rest, same_line}
 use Rattle.markdown_lines.proofs.LinesLemmas.{past_ascii, space_ascii}
 use Rattle.markdown_lines.proofs.SeparationLemmas.{parts, parts_here, parts_over, separation_is}
 

@@ -1,7 +1,7 @@
 -- The lines of a label, joined up to one that closes it.
-use Rattle.std.proofs.Common.{◌≡◌, ℕ, suc, ◌+◌, ◌-◌, ◌<◌, ◌≤◌, List, [], ◌∷◌, ◌++◌, Bool, true, false}
-use Rattle.std.proofs.Common.{Option, Some, None, length, drop, take, refl, sym, ap, ◌∙◌, arith, subst, ◌==◌}
-use Rattle.std.proofs.Common.{get_or, append_assoc, append-nil, count_by, nat_le, ◌&&◌, ⊎_elim, slice_range}
+use Rattle.std.proofs.Common.{◌≡◌, ℕ, suc, ◌+◌, ◌-◌, ◌<◌, ◌≤◌, List, [], ◌∷◌, ◌++◌, Bool, true, false, Option, Some}
+use Rattle.std.proofs.Common.{None, length, drop, take, refl, sym, ap, ◌∙◌, arith, subst, ◌==◌, get_or, append_assoc}
+use Rattle.std.proofs.Common.{append-nil, count_by, nat_le, ◌&&◌, ⊎_elim, slice_range}
 use Rattle.std.proofs.lemmas.Bool.{cases_lt}
 use Rattle.std.proofs.lemmas.Bool.Decides.{nat_tests}
 use Rattle.std.proofs.lemmas.List.{drop_all, take_all, take_more}
@@ -16,8 +16,7 @@ use Rattle.markdown_scan.specs.Backslash.{is_bare}
 use Rattle.markdown_scan.specs.Label.{begins_character, fits_label, is_not_white_space, put_before, shown, with_shown}
 use Rattle.markdown_scan.specs.Label.{collapse_whitespace}
 use Rattle.markdown_lines.specs.HeldLabels.{IsDecided, LabelGoesOn, escaped_after, label_in, label_of}
-use Rattle.markdown_lines.specs.HeldLines.{IsBracketPlace}
-use Rattle.markdown_lines.specs.HeldLines.{IsHeldLine, held_text}
+use Rattle.markdown_lines.specs.HeldLines.{IsBracketPlace, IsHeldLine, held_text}
 use Rattle.markdown_lines.specs.HeldPlaces.{IsNextLine, IsPlace, count_before, rest_at}
 use Rattle.markdown_lines.specs.LineBytes.{IsPartOf}
 use Rattle.markdown_lines.specs.Lines.{is_line_ending}

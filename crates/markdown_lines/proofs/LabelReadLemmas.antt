@@ -1,19 +1,17 @@
 -- The label of a definition: none where no colon can follow it, one in a line, or one in several.
-use Rattle.std.proofs.Common.{◌≡◌, ℕ, ◌+◌, ◌<◌, ◌≤◌, List, [], ◌∷◌, ◌++◌, Bool, true, false, Option, Some}
-use Rattle.std.proofs.Common.{None, IfSome, length, drop, refl, sym, ap, ◌∙◌, arith, subst, slice_range, codes}
+use Rattle.std.proofs.Common.{◌≡◌, ℕ, ◌+◌, ◌<◌, ◌≤◌, List, [], ◌∷◌, ◌++◌, Bool, true, false, Option, Some, None, IfSome}
+use Rattle.std.proofs.Common.{length, drop, refl, sym, ap, ◌∙◌, arith, subst, slice_range, codes}
 use Rattle.std.specs.List.{slice_get}
 use Rattle.std.specs.Option.{option_map}
 use Rattle.std.specs.Prelude.{if◌then◌else◌}
 use Rattle.std.specs.Str.{IsUtf8}
 use Rattle.markdown_scan.specs.Backslash.{is_bare}
 use Rattle.markdown_scan.specs.Beginnings.{begins_with}
-use Rattle.markdown_scan.specs.Label.{body, collapse_whitespace, fits_label, label_bytes, link_label, put_before}
-use Rattle.markdown_scan.specs.Label.{shown}
+use Rattle.markdown_scan.specs.Label.{body, collapse_whitespace, fits_label, label_bytes, link_label, put_before, shown}
 use Rattle.markdown_scan.specs.LinePrefix.{ends_line}
 use Rattle.markdown_scan.specs.LineStart.{is_line_over}
 use Rattle.markdown_lines.specs.HeldLabels.{HasNoColon, IsLabelRead, label_in, label_of, label_read}
-use Rattle.markdown_lines.specs.HeldLines.{IsBracketPlace}
-use Rattle.markdown_lines.specs.HeldLines.{held_text}
+use Rattle.markdown_lines.specs.HeldLines.{IsBracketPlace, held_text}
 use Rattle.markdown_lines.specs.LineBytes.{IsPartOf}
 use Rattle.markdown_lines.specs.declared.definition.Label.{Label}
 use Rattle.markdown_lines.specs.declared.definition.Spot.{Spot}

@@ -1,7 +1,6 @@
 -- Laws of the bytes of a line: what is left of them, and where what was counted in it ends.
 use Rattle.std.proofs.Common.{◌≡◌, ℕ, ◌+◌, ◌-◌, ◌<◌, ◌≤◌, List, Bool, length, take, drop, slice_range, length-drop}
-use Rattle.std.proofs.Common.{length-take-le, sym, ap}
-use Rattle.std.proofs.Common.{arith}
+use Rattle.std.proofs.Common.{length-take-le, sym, ap, arith}
 use Rattle.std.proofs.lemmas.List.{length-take, take_all}
 use Rattle.std.specs.List.{suffix_len}
 use Rattle.markdown_lines.specs.LineBytes.{without_end}

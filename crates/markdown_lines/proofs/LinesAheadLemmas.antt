@@ -1,8 +1,8 @@
 -- Lines that are ahead: one after another, and from where on none of them closes metadata.
 use Rattle.std.proofs.Common.{◌≡◌, ◌≢◌, ◌⊎◌, inl, inr, ⊎_elim, ℕ, zero, suc, ◌+◌, ◌-◌, ◌<◌, ◌≤◌, List, [], ◌∷◌, Bool}
-use Rattle.std.proofs.Common.{true, false, length, drop, get_or, refl, sym, ap, ◌∙◌, subst, arith}
-use Rattle.std.proofs.Common.{drop-drop, get_or-drop, length-drop, slice_range, ◌&&◌, ◌||◌, ◌==◌, not}
-use Rattle.std.proofs.lemmas.Bool.{cases_eq, cases_lt}
+use Rattle.std.proofs.Common.{true, false, length, drop, get_or, refl, sym, ap, ◌∙◌, subst, arith, drop-drop}
+use Rattle.std.proofs.Common.{get_or-drop, length-drop, slice_range, ◌&&◌, ◌==◌, not}
+use Rattle.std.proofs.lemmas.Bool.{not-false, not-true, cases_eq, cases_lt}
 use Rattle.std.proofs.lemmas.Bool.Decides.{nat_tests}
 use Rattle.std.proofs.lemmas.List.{drop_all}
 use Rattle.std.proofs.lemmas.List.Sums.{prefix_len-drop_no, prefix_len-le-length, prefix_len_is, prefix_len_passes}
@@ -10,6 +10,7 @@ use Rattle.std.proofs.lemmas.List.Sums.{prefix_len_stops}
 use Rattle.std.specs.List.{list_all, prefix_len}
 use Rattle.markdown_base.specs.declared.tag.MetadataBlockKind.{MetadataBlockKind}
 use Rattle.markdown_base.specs.declared.tag.MetadataBlockKind.TheVariants as kind
+use Rattle.markdown_base.proofs.BoolLemmas.{or_first, or_second}
 use Rattle.markdown_scan.specs.LineEnd.{begins_line_feed}
 use Rattle.markdown_lines.specs.declared.line.Line.{Line}
 use Rattle.markdown_lines.specs.Lines.{IsLineFrom, ending_length, is_line_ending, is_space_or_tab}
@@ -20,14 +21,6 @@ use Rattle.markdown_lines.specs.UnclosedMetadata.{IsUnclosed}
 -- neither a line feed nor a carriage return
 abbrev goes_on : ℕ → Bool
 goes_on b = not (is_line_ending b)
-
-not_true : (test : Bool) → not test ≡ true → test ≡ false
-not_true true h = cc
-not_true false h = refl
-
-not_false : (test : Bool) → not test ≡ false → test ≡ true
-not_false true h = refl
-not_false false h = cc
 
 -- all bytes of a line ending are bytes of line endings, and there is one where such a byte stands
 pub in_ending : (bytes : List ℕ) (i : ℕ) → i < ending_length bytes → is_line_ending (get_or bytes i 0) ≡ true
@@ -99,7 +92,7 @@ line_in text at b bytes size is counted =
     let rest_is : rest ≡ drop (at + size) text = ap (drop size) is ∙ drop-drop size at text in
     let stops : size < length all → is_line_ending (get_or rest 0 0) ≡ true =
     λ (less : size < length all).
-    not_false (is_line_ending (get_or rest 0 0))
+    not-false (is_line_ending (get_or rest 0 0))
     (ap (λ x. not (is_line_ending x)) (byte_of_rest text rest (at + size) 0 (at + size) rest_is (omega arith)
     ∙ sym (byte_of_rest text all at size (at + size) is refl))
     ∙ (ap (λ k. not (is_line_ending (get_or all k 0))) counted
@@ -112,7 +105,7 @@ line_in text at b bytes size is counted =
           (λ (most : length all ≤ size). omega (arith, most)) (cases_lt size (length all));
       content = λ p low high.
           ap is_line_ending (sym (byte_of_rest text all at (p - at) p is (omega (arith, low))))
-          ∙ not_true (is_line_ending (get_or all (p - at) 0))
+          ∙ not-true (is_line_ending (get_or all (p - at) 0))
           (prefix_len_passes goes_on all (p - at) 0 (omega (arith, low, high, counted)));
       ending = λ p low high.
           ap is_line_ending (sym (byte_of_rest text rest (at + size) (p - (at + size)) p rest_is (omega (arith, low))))
@@ -174,14 +167,6 @@ ended_closes_none k text p over = rw (none over) (empty_closes_none k)
         (λ (most : length text ≤ p). ap (prefix_len goes_on) (drop_all p text most)) (cases_lt p (length text)))
         over
 
-first_none : (x y : Bool) → (x || y) ≡ false → x ≡ false
-first_none true y h = cc
-first_none false y h = refl
-
-other_none : (x y : Bool) → (x || y) ≡ false → y ≡ false
-other_none true y h = cc
-other_none false y h = h
-
 -- where no line closes metadata, it is known from there on
 pub nothing_closes : (k : MetadataBlockKind) (text : List ℕ) (n at : ℕ) (bytes : List ℕ) → bytes ≡ drop at text
     → length bytes ≤ n → one_closes k (lines_from n at bytes) ≡ false → IsUnclosed k text at
@@ -197,8 +182,8 @@ nothing_closes k text (suc n) at (b ∷ bytes) is few none p low ends =
     let l = line_in text at b bytes size is refl in
     let rest = drop (line.next - at) all in
     let rest_is = rest_after text all at line.next is (omega (arith, l.moves)) in
-    let here = first_none (closes_metadata k line.left.bytes) (one_closes k (lines_from n line.next rest)) none in
-    let others = other_none (closes_metadata k line.left.bytes) (one_closes k (lines_from n line.next rest)) none in
+    let here = or_first (closes_metadata k line.left.bytes) (one_closes k (lines_from n line.next rest)) none in
+    let others = or_second (closes_metadata k line.left.bytes) (one_closes k (lines_from n line.next rest)) none in
     ⊎_elim
     (λ (before : p < line.next).
     ⊎_elim

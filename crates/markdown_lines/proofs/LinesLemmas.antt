@@ -1,12 +1,11 @@
 -- Laws of runs of bytes: one byte more, and where a text may be cut.
 use Rattle.std.proofs.Common.{◌≡◌, ◌≢◌, ℕ, ◌+◌, ◌-◌, ◌<◌, ◌≤◌, List, [], ◌∷◌, Bool, true, false, length, get_or, refl}
-use Rattle.std.proofs.Common.{sym, ap, ◌∙◌}
-use Rattle.std.proofs.Common.{arith, slice_index, slice_range, ⊎_elim}
-use Rattle.std.proofs.lemmas.Bool.{cases_eq, cases_lt}
+use Rattle.std.proofs.Common.{sym, ap, ◌∙◌, arith, slice_index, slice_range, ⊎_elim}
+use Rattle.std.proofs.lemmas.Bool.{or_from, and_parts, cases_eq, cases_lt}
 use Rattle.std.proofs.lemmas.Bool.Decides.{nat_tests}
 use Rattle.std.proofs.lemmas.Str.{IsCharBoundary-after_ascii}
 use Rattle.std.specs.List.{list_all, list_any}
-use Rattle.std.specs.Prelude.{◌&&◌, ◌||◌, nat_lt}
+use Rattle.std.specs.Prelude.{nat_lt}
 use Rattle.std.specs.Str.{IsUtf8, IsCharBoundary}
 use Rattle.markdown_base.proofs.ByteListLemmas.{byte_of_part, part_length}
 use Rattle.markdown_lines.specs.Lines.{is_space_or_tab, is_line_ending, is_in_blank_line, AllPass, IsLineEnd}
@@ -47,22 +46,15 @@ past_ascii text at u l a = IsCharBoundary-after_ascii text at u l a
 abbrev pub is_after_endings : ℕ → Bool
 is_after_endings byte = nat_lt 13 byte
 
-both_pass : (x y : Bool) → (x && y) ≡ true → (x ≡ true) × (y ≡ true)
-both_pass true y h = (refl, h)
-both_pass false y h = cc
-
 after_is_none : (byte : ℕ) → is_after_endings byte ≡ true → is_line_ending byte ≡ false
 after_is_none byte h = grind (arith, nat_tests)
-
-none_of_two : (x y : Bool) → x ≡ false → y ≡ false → (x || y) ≡ false
-none_of_two x y p q = rw (p, q) refl
 
 -- among bytes that are all greater than the carriage return none begins a line ending
 pub none_ends : (bytes : List ℕ) → list_all is_after_endings bytes ≡ true → list_any is_line_ending bytes ≡ false
 none_ends [] h = refl
 none_ends (byte ∷ bytes) h =
-    let both = both_pass (is_after_endings byte) (list_all is_after_endings bytes) h in
-    none_of_two (is_line_ending byte) (list_any is_line_ending bytes) (after_is_none byte both.0)
+    let both = and_parts (is_after_endings byte) (list_all is_after_endings bytes) h in
+    or_from (is_line_ending byte) (list_any is_line_ending bytes) (after_is_none byte both.0)
     (none_ends bytes both.1)
 
 -- where no byte ends the line up to a part, and none of the first bytes of the part does, none does up to there

@@ -1,14 +1,14 @@
 -- Numbers of list markers, digit by digit.
 use Rattle.std.proofs.Common.{◌≡◌, ℕ, zero, suc, ◌+◌, ◌-◌, ◌*◌, ◌<◌, ◌≤◌, ◌^◌, min, List, [], ◌∷◌, Bool, true, false}
-use Rattle.std.proofs.Common.{Some, length, take}
-use Rattle.std.proofs.Common.{drop, get_or, refl, subst, arith, cond}
+use Rattle.std.proofs.Common.{Some, length, take, drop, get_or, refl, subst, arith, cond}
 use Rattle.std.proofs.lemmas.Bool.Decides.{nat_tests}
 use Rattle.std.proofs.lemmas.Grind.{common_steps, pow_more}
 use Rattle.std.proofs.lemmas.List.Sums.{AllPass-from_list_all}
-use Rattle.std.specs.Prelude.{◌==◌, nat_lt}
+use Rattle.std.specs.Prelude.{nat_lt}
 use Rattle.std.specs.Char.{is_ascii_digit}
 use Rattle.std.specs.List.{list_all, prefix_len, slice_get}
 use Rattle.markdown_lines.specs.ListMarkers.{decimal, ends_number, ordered_marker}
+use Rattle.markdown_scan.proofs.LineStartLemmas.{eq_test_false}
 
 -- one digit more
 pub decimal_more : (digits : List ℕ) (i : ℕ) → i < length digits
@@ -60,9 +60,6 @@ pub front_passes : (test : ℕ → Bool) (xs : List ℕ) → list_all test (take
 front_passes test [] = refl
 front_passes test (x ∷ xs) = front_step test x xs (test x) refl (front_passes test xs)
 
-zero_test : (count : ℕ) → 0 < count → (count == 0) ≡ false
-zero_test count h = grind (arith, nat_tests)
-
 nine_test : (count : ℕ) → count ≤ 9 → nat_lt 9 count ≡ false
 nine_test count h = grind (arith, nat_tests)
 
@@ -75,4 +72,4 @@ ordered_is bytes digits [] count character first n d r at some few is value = cc
 ordered_is bytes digits (x ∷ xs) count character first n d r at some few is value =
     let same : character ≡ x = cc in
     let stands = subst (λ byte. ends_number byte ≡ true) same is in
-    rw (← n, ← d, ← r, zero_test count some, nine_test count few, stands, same, value) refl
+    rw (← n, ← d, ← r, eq_test_false count some, nine_test count few, stands, same, value) refl

@@ -1,16 +1,16 @@
 -- Steps over the white space of a line, from a place in its middle on.
-use Rattle.std.proofs.Common.{◌≡◌, ℕ, zero, suc, ◌+◌, ◌-◌, ◌<◌, ◌≤◌, ◌%◌, ◌^◌, List, [], ◌∷◌, true, false, ◌==◌}
-use Rattle.std.proofs.Common.{length, get_or, take, drop, drop-cons}
-use Rattle.std.proofs.Common.{slice_range, length-drop, refl, sym, ◌∙◌, ap, arith}
+use Rattle.std.proofs.Common.{◌≡◌, ℕ, suc, ◌+◌, ◌-◌, ◌<◌, ◌≤◌, ◌%◌, ◌^◌, List, ◌∷◌, true, false, ◌==◌, length, get_or}
+use Rattle.std.proofs.Common.{take, drop, drop-cons, slice_range, length-drop, refl, sym, ◌∙◌, ap, arith}
 use Rattle.std.proofs.lemmas.Bool.Decides.{nat_tests}
-use Rattle.std.proofs.Math.Seq.{take-nil}
 use Rattle.std.proofs.lemmas.List.{drop-drop, length-take}
 use Rattle.markdown_base.proofs.ByteListLemmas.{neither, byte_of_part}
+use Rattle.markdown_base.proofs.ListLemmas.{drop_of_take}
 use Rattle.markdown_scan.specs.LineStart.{LineLeft, space_width, column_after, leading_space, space_from, wider}
 use Rattle.markdown_scan.specs.LineStart.{next_column, no_space, past_marker, past_one_byte}
 use Rattle.markdown_scan.specs.LineStart as scan
 use Rattle.markdown_scan.specs.LineSteps.{width_next, past_white}
 use Rattle.markdown_scan.proofs.LineStartLemmas.{eq_test_false, space_zero, space_unowed}
+use Rattle.markdown_scan.proofs.LineSpaceLemmas.{none_from}
 use Rattle.markdown_lines.specs.declared.position.Position.{Position}
 use Rattle.markdown_lines.specs.declared.space.Space.{Space}
 use Rattle.markdown_lines.specs.BlockBeginnings.{past_bytes}
@@ -96,12 +96,6 @@ pub moved : (text : List ℕ) (stop at column most byte : ℕ) (after : Position
 moved text stop at column most byte after before within is some a o k =
     rw (a, o, k) (past_is text stop at column most byte before within is some)
 
-none_from : (k scanned column byte : ℕ) (bytes : List ℕ) → (space_width column byte == 0) ≡ true
-    → space_from k scanned column (byte ∷ bytes)
-    ≡ no_space (record { scanned = scanned; owed = 0; column = column; bytes = byte ∷ bytes })
-none_from zero scanned column byte bytes e = refl
-none_from (suc k) scanned column byte bytes e = rw (eq_test_false (suc k) (omega arith), e) refl
-
 -- where another byte comes, no space does
 quiet : (text : List ℕ) (stop n byte : ℕ) (position : Position) → position.at < stop → position.at < length text
     → byte ≡ get_or text position.at 0 → is_space_or_tab byte ≡ false → position.owed ≡ 0
@@ -153,23 +147,11 @@ other_next text position stop most byte found before within is other none value 
     all_read text position stop most found (leading_space (most - found.columns) (left_from text found.after stop))
     (quiet text stop (most - found.columns) byte found.after before within is other none) value
 
--- a part of a text without its first bytes
-drop_take : (count size : ℕ) (bytes : List ℕ) → drop count (take size bytes) ≡ take (size - count) (drop count bytes)
-drop_take zero size bytes =
-    let all : size ≡ size - 0 = omega arith in ap (λ n. take n bytes) all
-drop_take (suc count) zero bytes =
-    let none : 0 ≡ 0 - suc count = omega arith in ap (λ n. take n (drop (suc count) bytes)) none
-drop_take (suc count) (suc size) [] =
-    sym (take-nil {A = ℕ} (suc size - suc count))
-drop_take (suc count) (suc size) (b ∷ bytes) =
-    let less : size - count ≡ suc size - suc count = omega arith in
-    drop_take count size bytes ∙ ap (λ n. take n (drop count bytes)) less
-
 pub rest_of_part : (text : List ℕ) (at stop count : ℕ)
     → drop count (slice_range text at stop) ≡ slice_range text (at + count) stop
 rest_of_part text at stop count =
     let size : stop - at - count ≡ stop - (at + count) = omega arith in
-    drop_take count (stop - at) (drop at text)
+    drop_of_take count (stop - at) (drop at text)
     ∙ (ap (λ n. take n (drop count (drop at text))) size
     ∙ ap (λ (bytes : List ℕ). take (stop - (at + count)) bytes) (drop-drop count at text))
 

@@ -1,19 +1,19 @@
 -- Rows: their parts, their cells, and the alignments of a delimiter row, one after the other.
-use Rattle.std.proofs.Common.{◌≡◌, ℕ, ◌+◌, ◌<◌, ◌≤◌, List, [], ◌∷◌, ◌++◌, Bool, true, false, not, ◌&&◌, ◌==◌}
-use Rattle.std.proofs.Common.{Option, Some, None, length, take, drop, get_or, refl, sym, ap, ◌∙◌, arith, append_assoc}
-use Rattle.std.proofs.Common.{append-nil, length-take, length-take-le, take_all, nat_eq, nat_lt, codes}
-use Rattle.std.proofs.Common.{slice_index, slice_range, ◌-◌, zero, suc, min}
+use Rattle.std.proofs.Common.{◌≡◌, ℕ, ◌+◌, ◌<◌, ◌≤◌, List, [], ◌∷◌, ◌++◌, Bool, true, false, not, ◌&&◌, ◌==◌, Option}
+use Rattle.std.proofs.Common.{Some, None, length, take, drop, get_or, refl, sym, ap, ◌∙◌, arith, append_assoc}
+use Rattle.std.proofs.Common.{append-nil, length-take, length-take-le, take_all, nat_eq, nat_lt, codes, slice_index}
+use Rattle.std.proofs.Common.{slice_range, ◌-◌, zero, suc, min}
 use Rattle.std.proofs.lemmas.List.{drop_all, drop_more, take_more}
-use Rattle.std.proofs.lemmas.Bool.{true≢false}
+use Rattle.std.proofs.lemmas.Bool.{and_parts, true≢false}
 use Rattle.std.proofs.lemmas.Bool.Decides.{nat_tests}
 use Rattle.std.specs.List.{list_all, prefix_len}
 use Rattle.std.proofs.lemmas.List.Sums.{prefix_len-le-length}
 use Rattle.markdown_base.specs.Bytes.{backslash, pipe}
 use Rattle.markdown_base.specs.declared.tag.Alignment.{Alignment}
+use Rattle.markdown_base.proofs.BoolLemmas.{less_is_other, is_itself}
 use Rattle.markdown_lines.specs.declared.table_row.Cell.{Cell}
 use Rattle.markdown_lines.specs.TableRows.{IsPart, before_alignments, cell_over, cells_from, cells_over, has_cut}
-use Rattle.markdown_lines.specs.TableRows.{is_cut}
-use Rattle.markdown_lines.specs.TableRows.{cells_left, content_of_part, is_row_white, onto_first, parts_after}
+use Rattle.markdown_lines.specs.TableRows.{is_cut, cells_left, content_of_part, is_row_white, onto_first, parts_after}
 use Rattle.markdown_lines.specs.TableRows.{piece_length, row_cells_at}
 use Rattle.markdown_lines.proofs.PositionsLemmas.{rest_of_part}
 use Rattle.markdown_scan.specs.Beginnings.{begins_with}
@@ -97,12 +97,6 @@ unpiped_part bytes count none = unpiped_from pipe bytes count none
 cut_is_pipe : (before byte : ℕ) → is_cut before byte ≡ true → byte ≡ pipe
 cut_is_pipe before byte is = grind (arith, nat_tests)
 
-unlike : (a b : ℕ) → a < b → (a == b) ≡ false
-unlike a b less = grind (arith, nat_tests)
-
-alike : (a : ℕ) → (a == a) ≡ true
-alike a = grind (arith, nat_tests)
-
 -- the first part ends at a cut
 pub part_ends : (bytes : List ℕ) (at before : ℕ) → at < length bytes
     → parts_after pipe bytes ≡ onto (take at bytes) (parts_after before (drop at bytes))
@@ -116,7 +110,7 @@ part_ends bytes at before less is one =
           ∙ (ap (onto (take at bytes)) (one_cut before byte rest one)
           ∙ (ap (λ part. part ∷ parts_after byte rest) (append-nil (take at bytes))
           ∙ (ap (λ b. take at bytes ∷ parts_after b rest) (cut_is_pipe before byte one)
-          ∙ rw (unlike at (length bytes) less) refl))));
+          ∙ rw (less_is_other at (length bytes) less) refl))));
     }
 
 -- or with the bytes
@@ -129,7 +123,7 @@ part_is_all bytes at before all is = record {
   parts = is ∙ (ap (λ xs. onto (take at bytes) (parts_after before xs)) (drop_all at bytes all)
       ∙ (ap (λ part. part ∷ []) (append-nil (take at bytes)
       ∙ (take_all at bytes all ∙ sym (take_all (length bytes) bytes (omega arith))))
-      ∙ rw (alike (length bytes)) refl));
+      ∙ rw (is_itself (length bytes)) refl));
 }
 
 -- there is a first part
@@ -172,10 +166,6 @@ cut_is bytes count part = decided (count == length bytes) refl
         part.parts ∙ rw is (ap (λ others. take count bytes ∷ others) there.is) in
         less ∙ sym (ap (λ parts. nat_lt 1 (length parts)) parts ∙ more)
 
-both_true : (p q : Bool) → (p && q) ≡ true → (p ≡ true) × (q ≡ true)
-both_true true q is = (refl, is)
-both_true false q is = absurd (true≢false (sym is))
-
 white_cuts_none : (before byte : ℕ) → is_row_white byte ≡ true → is_cut before byte ≡ false
 white_cuts_none before byte is = grind (arith, nat_tests)
 
@@ -185,7 +175,7 @@ white_part : (before : ℕ) (bytes : List ℕ) → list_all is_row_white bytes �
 unfolding parts_after
 white_part before [] all = refl
 white_part before (byte ∷ bytes) all =
-    let both = both_true (is_row_white byte) (list_all is_row_white bytes) all in
+    let both = and_parts (is_row_white byte) (list_all is_row_white bytes) all in
     no_cut before byte bytes (white_cuts_none before byte both.0) ∙ ap (onto_first byte) (white_part byte bytes both.1)
 
 -- and no cell
@@ -273,7 +263,7 @@ white_is_all : (bytes : List ℕ) → list_all is_row_white bytes ≡ true
     → prefix_len is_row_white bytes ≡ length bytes
 white_is_all [] all = refl
 white_is_all (byte ∷ bytes) all =
-    let both = both_true (is_row_white byte) (list_all is_row_white bytes) all in
+    let both = and_parts (is_row_white byte) (list_all is_row_white bytes) all in
     let more : prefix_len is_row_white (byte ∷ bytes) ≡ 1 + prefix_len is_row_white bytes = rw both.0 refl in
     let on = white_is_all bytes both.1 in
     omega (arith, more, on)

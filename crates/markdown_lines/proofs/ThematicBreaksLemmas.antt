@@ -1,9 +1,9 @@
 -- A thematic break, by what was counted in a line's content.
 use Rattle.std.proofs.Common.{◌≡◌, ℕ, ◌<◌, ◌≤◌, List, [], ◌∷◌, Bool, true, false, Some, None, length, drop, refl, sym}
 use Rattle.std.proofs.Common.{subst, ◌&&◌, arith}
-use Rattle.std.proofs.lemmas.Bool.Decides.{nat_tests}
-use Rattle.std.specs.Prelude.{◌==◌, nat_le, nat_lt, if◌then◌else◌}
+use Rattle.std.specs.Prelude.{◌==◌, if◌then◌else◌}
 use Rattle.std.specs.List.{count_by, list_all, prefix_len, slice_get}
+use Rattle.std.proofs.lemmas.Bool.{eq-eqb, le-ltb, lt-leb, le-leb}
 use Rattle.markdown_lines.specs.ThematicBreaks.{is_break_mark, is_of_break, is_thematic_break, IsBrokenOff}
 use Rattle.markdown_lines.specs.ThematicBreaks.{underline_level, setext_level}
 use Rattle.markdown_lines.specs.Lines.{is_space_or_tab}
@@ -14,18 +14,6 @@ three a b c p q r = rw (p, q, r) refl
 not_three : (a b c : Bool) → a ≡ true → b ≡ true → c ≡ false → (a && b && c) ≡ false
 not_three a b c p q r = rw (p, q, r) refl
 
-same_test : (a b : ℕ) → a ≡ b → (a == b) ≡ true
-same_test a b e = grind (arith, nat_tests)
-
-le_test : (a b : ℕ) → a ≤ b → nat_le a b ≡ true
-le_test a b h = grind (arith, nat_tests)
-
-gt_test : (a b : ℕ) → b < a → nat_le a b ≡ false
-gt_test a b h = grind (arith, nat_tests)
-
-lt_test : (a b : ℕ) → b ≤ a → nat_lt a b ≡ false
-lt_test a b h = grind (arith, nat_tests)
-
 -- all of content is of the kind of its first character
 unfoldable AllOf : ℕ → List ℕ → Type 0
 AllOf mark content = prefix_len (is_of_break mark) content ≡ length content
@@ -33,14 +21,14 @@ AllOf mark content = prefix_len (is_of_break mark) content ≡ length content
 break_from : (mark : ℕ) (xs : List ℕ) → is_break_mark mark ≡ true → AllOf mark (mark ∷ xs)
     → 3 ≤ count_by (λ b. b == mark) (mark ∷ xs) → is_thematic_break (mark ∷ xs) ≡ true
 unfolding AllOf
-break_from mark xs kind all many = three _ _ _ kind (same_test _ _ all) (le_test _ _ many)
+break_from mark xs kind all many = three _ _ _ kind (eq-eqb _ _ all) (le-leb _ _ many)
 
 few_from : (mark : ℕ) (xs : List ℕ) → is_break_mark mark ≡ true → AllOf mark (mark ∷ xs)
     → count_by (λ b. b == mark) (mark ∷ xs) < 3 → IsBrokenOff (mark ∷ xs) 0
 unfolding AllOf
 few_from mark xs kind all few = record {
-  none = not_three _ _ _ kind (same_test _ _ all) (gt_test _ _ few);
-  value = rw (kind, lt_test (prefix_len (is_of_break mark) (mark ∷ xs)) (length (mark ∷ xs)) (omega (arith, all))) refl;
+  none = not_three _ _ _ kind (eq-eqb _ _ all) (lt-leb _ _ few);
+  value = rw (kind, le-ltb (prefix_len (is_of_break mark) (mark ∷ xs)) (length (mark ∷ xs)) (omega (arith, all))) refl;
 }
 
 -- three or more of a character in content of its kind are a break

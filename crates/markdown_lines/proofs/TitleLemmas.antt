@@ -1,11 +1,12 @@
 -- The title of a definition, line by line.
 use Rattle.std.specs.List.{list_all, slice_get}
-use Rattle.std.specs.Prelude.{option_and_then}
+use Rattle.std.specs.Prelude.{option_and_then, ◌&&◌}
 use Rattle.std.proofs.Math.Seq.{take-nil}
 use Rattle.std.proofs.lemmas.Str.{IsCharBoundary-before_ascii}
 use Rattle.markdown_base.proofs.ByteListLemmas.{byte_of_part, part_length}
-use Rattle.std.proofs.lemmas.Bool.{cases_lt}
-use Rattle.std.proofs.lemmas.List.{drop-drop, length-drop}
+use Rattle.markdown_base.proofs.OptionLemmas.{added_twice}
+use Rattle.std.proofs.lemmas.Bool.{and_parts, cases_lt, true≢false}
+use Rattle.std.proofs.lemmas.List.{drop-drop, length-drop, drop_all}
 use Rattle.std.proofs.lemmas.Option.{slice_get_past, slice_get_within}
 use Rattle.markdown_lines.proofs.HeldLinesLemmas.{after_line, bounds_of, count_more, count_next, last_line, line_left}
 use Rattle.markdown_lines.proofs.HeldLinesLemmas.{line_of, place_line, place_rest, rest_is, same_line}
@@ -13,26 +14,20 @@ use Rattle.markdown_lines.proofs.HeldPlacesLemmas.{next_of, some_ending}
 use Rattle.markdown_lines.proofs.LinesLemmas.{past_ascii}
 use Rattle.markdown_lines.proofs.PositionsLemmas.{part_next}
 use Rattle.std.specs.Str.{IsCharBoundary, IsUtf8}
-use Rattle.markdown_lines.specs.DefinitionRules.{closing_mark}
+use Rattle.markdown_lines.specs.DefinitionRules.{closing_mark, title_length}
 use Rattle.markdown_lines.specs.HeldPlaces.{IsNextLine, IsPlace, count_before, count_to, rest_at}
 use Rattle.markdown_lines.specs.HeldTitles.{IsTitle, title_size}
 use Rattle.markdown_lines.specs.HeldLines.{IsHeldLine, held_text}
-use Rattle.markdown_lines.specs.Lines.{ending_length}
+use Rattle.markdown_lines.specs.Lines.{ending_length, is_line_ending}
 use Rattle.markdown_lines.specs.declared.definition.Spot.{Spot}
 use Rattle.markdown_lines.specs.declared.held_line.HeldLine.{HeldLine}
 use Rattle.std.proofs.Common.{◌≡◌, ℕ, zero, suc, ◌+◌, ◌-◌, ◌<◌, ◌≤◌, List, [], ◌∷◌, ◌++◌, Bool, true, false, ◌==◌}
-use Rattle.std.proofs.Common.{get_or}
-use Rattle.std.proofs.Common.{Option, Some, None, length, drop, take, refl, sym, ap, ◌∙◌, arith, slice_range, subst}
-use Rattle.std.proofs.Common.{slice_index, ⊎_elim}
-use Rattle.std.proofs.lemmas.Bool.{true≢false}
+use Rattle.std.proofs.Common.{get_or, Option, Some, None, length, drop, take, refl, sym, ap, ◌∙◌, arith, slice_range}
+use Rattle.std.proofs.Common.{subst, slice_index, ⊎_elim}
 use Rattle.std.proofs.lemmas.Bool.Decides.{nat_tests}
-use Rattle.std.proofs.lemmas.List.{drop_all}
-use Rattle.std.specs.Prelude.{◌&&◌}
 use Rattle.std.specs.Option.{option_map}
 use Rattle.markdown_scan.specs.Backslash.{is_bare}
 use Rattle.markdown_scan.specs.LineStart.{is_line_over}
-use Rattle.markdown_lines.specs.DefinitionRules.{title_length}
-use Rattle.markdown_lines.specs.Lines.{is_line_ending}
 
 -- one byte more of a title
 pub title_more : (close : ℕ) (escaped : Bool) (b : ℕ) (bytes : List ℕ) → is_bare escaped b close ≡ false
@@ -40,11 +35,6 @@ pub title_more : (close : ℕ) (escaped : Bool) (b : ℕ) (bytes : List ℕ) →
     → title_length close escaped (b ∷ bytes)
     ≡ option_map (λ n. 1 + n) (title_length close (is_bare escaped b 92) bytes)
 title_more close escaped b bytes other within = rw (other, within) refl
-
-pub map_twice : (more less : ℕ) (found : Option ℕ) → option_map (λ n. more + n) (option_map (λ n. less + n) found)
-    ≡ option_map (λ n. more + less + n) found
-map_twice more less None = refl
-map_twice more less (Some n) = ap Some (omega arith)
 
 -- a title goes on over a line ending
 pub ending_bytes : (rest : List ℕ) → is_line_over rest ≡ true
@@ -69,10 +59,6 @@ ending_bytes (b ∷ rest) over = decided (b == 10) (b == 13) refl refl
     decided false false p q =
         let other : is_line_over (b ∷ rest) ≡ false = rw (p, q) refl in absurd (true≢false (sym over ∙ other))
 
-pub both_true : (p q : Bool) → (p && q) ≡ true → (p ≡ true) × (q ≡ true)
-both_true true q is = (refl, is)
-both_true false q is = absurd (true≢false (sym is))
-
 over_ending : (close : ℕ) (ending more : List ℕ) → is_line_ending close ≡ false
     → list_all is_line_ending ending ≡ true
     → title_length close false (ending ++ more) ≡ option_map (λ n. length ending + n) (title_length close false more)
@@ -82,7 +68,7 @@ over_ending close [] more other passes = none_more (title_length close false mor
     none_more None = refl
     none_more (Some n) = ap Some (omega arith)
 over_ending close (b ∷ ending) more other passes =
-    let both = both_true (is_line_ending b) (list_all is_line_ending ending) passes in
+    let both = and_parts (is_line_ending b) (list_all is_line_ending ending) passes in
     let here = both.0 in
     let unlike : (b == close) ≡ false = grind (arith, nat_tests) in
     let opens : (b == 40) ≡ false = grind (arith, nat_tests) in
@@ -90,7 +76,7 @@ over_ending close (b ∷ ending) more other passes =
     title_more close false b (ending ++ more) unlike (rw opens refl)
     ∙ (ap (λ t. option_map (λ n. 1 + n) (title_length close t (ending ++ more))) slash
     ∙ (ap (option_map (λ n. 1 + n)) (over_ending close ending more other both.1)
-    ∙ (map_twice 1 (length ending) (title_length close false more) ∙ sized (title_length close false more))))
+    ∙ (added_twice 1 (length ending) (title_length close false more) ∙ sized (title_length close false more))))
   where
     sized : (found : Option ℕ)
         → option_map (λ n. 1 + length ending + n) found ≡ option_map (λ n. suc (length ending) + n) found
@@ -417,7 +403,7 @@ goes_past text lines close from line there other goes place =
     ap (title_length close false) (content_left text lines from line there place)
     ∙ (goes (ending ++ more) other after.over
     ∙ (ap (option_map (λ n. length content + n)) (over_ending close ending more other passes)
-    ∙ (map_twice (length content) (length ending) (title_length close false more)
+    ∙ (added_twice (length content) (length ending) (title_length close false more)
     ∙ ap (λ size. option_map (λ n. size + n) (title_length close false more)) whole)))
 
 pub title_unclosed : (text : List ℕ) (lines : List HeldLine) (spot : Spot) (close : ℕ) (from : Spot) (line : HeldLine)
@@ -466,7 +452,7 @@ reads_next text lines spot close from line after there goes next reads =
     let ends : title_ends text lines close after ≡ title_ends text lines close from =
     ap (λ (xs : List ℕ). option_map (λ n. count_to lines after + n) (title_length close false xs)) left
     ∙ (ap (λ count. option_map (λ n. count + n) (title_length close false more)) (begins ∙ counted)
-    ∙ (sym (map_twice (count_to lines from) (line.next - from.at) (title_length close false more))
+    ∙ (sym (added_twice (count_to lines from) (line.next - from.at) (title_length close false more))
     ∙ ap (option_map (λ n. count_to lines from + n))
     (sym (goes_past text lines close from line there reads.other goes place)))) in
     record {

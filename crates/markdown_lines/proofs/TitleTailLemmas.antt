@@ -1,7 +1,6 @@
 -- What follows a destination: a title, or nothing in its line.
-use Rattle.std.proofs.Common.{◌≡◌, ℕ, ◌+◌, ◌-◌, List, [], Bool, true, false, ◌==◌}
-use Rattle.std.proofs.Common.{Some, None, drop, take, refl, sym, ap, ◌∙◌, arith}
-use Rattle.std.proofs.Common.{◌≢◌}
+use Rattle.std.proofs.Common.{◌≡◌, ℕ, ◌+◌, ◌-◌, List, [], Bool, true, false, ◌==◌, Some, None, drop, take, refl, sym}
+use Rattle.std.proofs.Common.{ap, ◌∙◌, arith, ◌≢◌}
 use Rattle.std.proofs.lemmas.Bool.Decides.{nat_tests}
 use Rattle.std.proofs.lemmas.List.{drop-drop}
 use Rattle.std.specs.Prelude.{option_and_then, if◌then◌else◌}

@@ -1,7 +1,7 @@
 -- Where no thematic break begins: at none of the bytes before one that cannot belong to it.
-use Rattle.std.proofs.Common.{◌≡◌, ℕ, zero, suc, ◌+◌, ◌-◌, ◌<◌, ◌≤◌, List, [], ◌∷◌, Bool, true, false, ⊎_elim}
-use Rattle.std.proofs.Common.{length, drop, refl, sym, ◌∙◌, ap, subst, arith, ◌&&◌, ◌==◌, slice_range}
-use Rattle.std.proofs.lemmas.Bool.{cases_Bool, or_cases}
+use Rattle.std.proofs.Common.{◌≡◌, ℕ, zero, suc, ◌+◌, ◌-◌, ◌<◌, ◌≤◌, List, [], ◌∷◌, Bool, true, false, ⊎_elim, length}
+use Rattle.std.proofs.Common.{drop, refl, sym, ◌∙◌, ap, subst, arith, ◌&&◌, ◌==◌, slice_range}
+use Rattle.std.proofs.lemmas.Bool.{eqb-true, ltb-true, cases_Bool, or_cases}
 use Rattle.std.proofs.lemmas.Bool.Decides.{nat_tests}
 use Rattle.std.specs.Prelude.{nat_lt}
 use Rattle.std.specs.List.{prefix_len}
@@ -9,6 +9,7 @@ use Rattle.markdown_lines.specs.Lines.{is_space_or_tab}
 use Rattle.markdown_lines.proofs.PositionsLemmas.{rest_of_part}
 use Rattle.markdown_lines.specs.ThematicBreaks.{IsBrokenOff, broken_off, is_break_mark, is_of_break, is_thematic_break}
 use Rattle.markdown_lines.specs.UnbrokenLines.{IsUnbroken}
+use Rattle.markdown_base.proofs.BoolLemmas.{less_is_other, and_second}
 
 white_is_no_mark : (byte : ℕ) → is_space_or_tab byte ≡ true → is_break_mark byte ≡ false
 white_is_no_mark byte white = grind (arith, nat_tests)
@@ -17,19 +18,13 @@ middle_false : (x y z : Bool) → y ≡ false → (x && y && z) ≡ false
 middle_false true y z fails = rw fails refl
 middle_false false y z fails = refl
 
-less_is_other : (a b : ℕ) → a < b → (a == b) ≡ false
-less_is_other a b less = grind (arith, nat_tests)
-
-is_same : (a b : ℕ) → (a == b) ≡ true → a ≡ b
-is_same a b same = grind (arith, nat_tests)
-
 -- no break begins here, if a byte that cannot belong to it follows those that may
 none_here : (mark byte : ℕ) (bytes : List ℕ) → is_of_break mark byte ≡ true
     → prefix_len (is_of_break mark) (byte ∷ bytes) < length (byte ∷ bytes) → is_thematic_break (byte ∷ bytes) ≡ false
 none_here mark byte bytes is more =
     ⊎_elim (λ (same : (byte == mark) ≡ true).
     let less = subst (λ m. prefix_len (is_of_break m) (byte ∷ bytes) < length (byte ∷ bytes))
-    (sym (is_same byte mark same)) more in
+    (sym (eqb-true byte mark same)) more in
     middle_false (is_break_mark byte) _ _ (less_is_other _ _ less))
     (λ (white : is_space_or_tab byte ≡ true). rw (white_is_no_mark byte white) refl)
     (or_cases (byte == mark) (is_space_or_tab byte) is)
@@ -53,16 +48,9 @@ abbrev is_begun : ℕ → List ℕ → Bool
 is_begun mark bytes =
     is_break_mark mark && nat_lt (prefix_len (is_of_break mark) (mark ∷ bytes)) (length (mark ∷ bytes))
 
-less_of : (a b : ℕ) → nat_lt a b ≡ true → a < b
-less_of a b is = grind (arith, nat_tests)
-
-second : (x y : Bool) → (x && y) ≡ true → y ≡ true
-second true y both = both
-second false y both = cc
-
 begun_less : (mark : ℕ) (bytes : List ℕ) → is_begun mark bytes ≡ true
     → prefix_len (is_of_break mark) (mark ∷ bytes) < length (mark ∷ bytes)
-begun_less mark bytes begun = less_of _ _ (second (is_break_mark mark) _ begun)
+begun_less mark bytes begun = ltb-true _ _ (and_second (is_break_mark mark) _ begun)
 
 -- so none does at the bytes that were broken off
 none_broken_off : (number : ℕ) (bytes : List ℕ) → number < broken_off bytes

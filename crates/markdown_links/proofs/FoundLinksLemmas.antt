@@ -1,7 +1,7 @@
 -- What the links found so far become, at each kind of event.
-use Rattle.std.proofs.Common.{◌≡◌, ◌≤◌, ◌<◌, ◌+◌, ◌-◌, ℕ, suc, true, false, List, [], ◌∷◌, ◌++◌, Option}
-use Rattle.std.proofs.Common.{Some, None, refl, sym, ap, ◌∙◌, length, drop, map, append_assoc, append-nil}
-use Rattle.std.proofs.Common.{slice_range, IsCharBoundary, IsUtf8, IfSome, set, get_or, arith}
+use Rattle.std.proofs.Common.{◌≡◌, ◌≤◌, ◌<◌, ◌+◌, ◌-◌, ℕ, suc, true, false, List, [], ◌∷◌, ◌++◌, Option, Some, None}
+use Rattle.std.proofs.Common.{refl, sym, ap, ◌∙◌, length, drop, map, append_assoc, append-nil, slice_range}
+use Rattle.std.proofs.Common.{IsCharBoundary, IsUtf8, IfSome, set, get_or, arith}
 use Rattle.std.proofs.lemmas.List.{length-append, length-drop, drop-append-le, nil_from_length, take_all}
 use Rattle.std.proofs.lemmas.List.{take-append-le}
 use Rattle.std.proofs.Math.Seq.{drop-length, get_or-append_seam, set-append_seam}
@@ -10,22 +10,14 @@ use Rattle.std.proofs.lemmas.Str.{IsCharBoundary-end, IsCharBoundary-from_drop, 
 use Rattle.std.specs.String.{string_bytes}
 use Rattle.markdown_links.specs.FoundLinks.{AreKept, BeginsAtEnd, HasLink, IsBegunBy, all_links, count_open, open_ones}
 use Rattle.markdown_links.specs.FoundLinks.{text_and_more, whole_entries, whole_entry}
-use Rattle.markdown_links.specs.LinkEntries.{ends_link, link_entries_of, link_entry, opened_link}
-use Rattle.markdown_links.specs.LinkEntries.{up_to_own_end}
+use Rattle.markdown_links.specs.LinkEntries.{ends_link, link_entries_of, link_entry, opened_link, up_to_own_end}
 use Rattle.markdown_links.specs.CutOut.{AreCutOut, IsCutOut, found_begun, found_entry, part_of_text}
 use Rattle.markdown_links.specs.declared.found.Found.{Found}
 use Rattle.markdown_links.specs.declared.so_far.LinksSoFar.{LinksSoFar}
-use Rattle.markdown_links.proofs.LinkEntriesLemmas.{end_begins_none, entries_at_other, inside_at_end}
-use Rattle.markdown_links.proofs.LinkEntriesLemmas.{inside_at_other, inside_at_own_end}
-use Rattle.markdown_links.proofs.LinkEntriesLemmas.{inside_at_start}
+use Rattle.markdown_links.proofs.LinkEntriesLemmas.{end_begins_none, entries_at_other, inside_at_end, inside_at_other}
+use Rattle.markdown_links.proofs.LinkEntriesLemmas.{inside_at_own_end, inside_at_start}
 use Rattle.markdown_outline.specs.Outline.{Ranged, joined_text, text_added}
-
--- what two equal lists begin with, and what follows
-cons-head : {A : Type 0} {x y : A} {xs ys : List A} → x ∷ xs ≡ y ∷ ys → x ≡ y
-cons-head {A} {x} {y} {xs} {ys} h = cc
-
-cons-tail : {A : Type 0} {x y : A} {xs ys : List A} → x ∷ xs ≡ y ∷ ys → xs ≡ ys
-cons-tail {A} {x} {y} {xs} {ys} h = cc
+use Rattle.markdown_base.proofs.ListLemmas.{cons-tail, cons-head}
 
 -- cases of an Option
 by_option : {A : Type 0} {P : Type 0} (o : Option A) → (o ≡ None → P) → ((a : A) → o ≡ Some a → P) → P

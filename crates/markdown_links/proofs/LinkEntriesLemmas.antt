@@ -3,8 +3,7 @@ use Rattle.std.proofs.Common.{◌≡◌, ◌-◌, ◌==◌, ℕ, suc, true, fals
 use Rattle.std.proofs.Math.Dec.{eqb-suc-zero}
 use Rattle.markdown_base.specs.Event.{EventView, start, end, text, code, inline_math, display_math, soft_break}
 use Rattle.markdown_base.specs.Event.{hard_break, html, inline_html, footnote_reference, rule, task_list_marker}
-use Rattle.markdown_links.specs.LinkEntries.{LinkBegun, ends_link, link_entries_of, opened_link}
-use Rattle.markdown_links.specs.LinkEntries.{up_to_own_end}
+use Rattle.markdown_links.specs.LinkEntries.{LinkBegun, ends_link, link_entries_of, opened_link, up_to_own_end}
 use Rattle.markdown_outline.specs.Outline.{Ranged, joined_text, text_added}
 
 -- a Start has no text

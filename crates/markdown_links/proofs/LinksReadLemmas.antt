@@ -1,7 +1,6 @@
 -- What the loop over the events keeps, and what follows from it where the loop is left.
-use Rattle.std.proofs.Common.{◌≡◌, ◌<◌, ℕ, List, [], ◌∷◌, ◌++◌, Ok, Err, Result, Option, Some, None, length}
-use Rattle.std.proofs.Common.{map}
-use Rattle.std.proofs.Common.{sym, ap, subst, ◌∙◌, append_assoc, append-nil}
+use Rattle.std.proofs.Common.{◌≡◌, ◌<◌, ℕ, List, [], ◌∷◌, ◌++◌, Ok, Err, Result, Option, Some, None, length, map, sym}
+use Rattle.std.proofs.Common.{ap, subst, ◌∙◌, append-nil}
 use Rattle.std.specs.Iterator.{Yields}
 use Rattle.std.specs.declared.ops.Range.{Range}
 use Rattle.std.proofs.lemmas.List.{map-append}
@@ -14,6 +13,7 @@ use Rattle.markdown_links.specs.LinksRead.{AreLinksOfAll, NeedsLinkMemory, links
 use Rattle.markdown_links.specs.declared.so_far.LinksSoFar.{LinksSoFar}
 use Rattle.markdown_outline.specs.Outline.{Ranged}
 use Rattle.markdown_outline.specs.OutlineRead.{MeetsError, event_items, ranged_view}
+use Rattle.markdown_outline.proofs.OutlineReadLemmas.{views-more, items-more}
 
 abbrev Placed : Type 0
 Placed = Event × Range ℕ
@@ -34,19 +34,6 @@ TookIn-none state yielded kept none read = record {
   kept = kept;
   makes = λ later. sym (none later);
 }
-
-items-more : (events : List Placed) (e : Placed) (yielded : List (Result Placed Fault)) (item : Result Placed Fault)
-    → yielded ≡ event_items events → item ≡ Ok e → yielded ++ item ∷ [] ≡ event_items (events ++ e ∷ [])
-items-more events e yielded item y i =
-    ap (λ (ys : List (Result Placed Fault)). ys ++ item ∷ []) y
-    ∙ ap (λ (x : Result Placed Fault). event_items events ++ x ∷ []) i
-    ∙ sym (map-append (λ (e : Placed). Ok e) events (e ∷ []))
-
-views-more : (events : List Placed) (e : Placed) (later : List Ranged)
-    → map ranged_view (events ++ e ∷ []) ++ later ≡ map ranged_view events ++ ranged_view e ∷ later
-views-more events e later =
-    ap (λ (es : List Ranged). es ++ later) (map-append ranged_view events (e ∷ []))
-    ∙ append_assoc (map ranged_view events) (ranged_view e ∷ []) later
 
 -- after one more event
 pub TookIn-more : {state state' : LinksSoFar} {yielded : List (Result Placed Fault)} {item : Result Placed Fault}

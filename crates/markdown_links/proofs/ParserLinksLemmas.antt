@@ -1,6 +1,5 @@
 -- The links of what a parser returns with its ranges are those of the text, where there is no callback.
-use Rattle.std.proofs.Common.{◌≡◌, ℕ, List, [], ◌∷◌, ◌++◌, map, Err, Option, None, Result}
-use Rattle.std.proofs.Common.{ap, refl, sym, ◌∙◌, is_some}
+use Rattle.std.proofs.Common.{◌≡◌, ℕ, List, [], ◌∷◌, ◌++◌, map, Err, Option, None, Result, ap, refl, sym, ◌∙◌, is_some}
 use Rattle.std.specs.Iterator.{Drains, Yields}
 use Rattle.std.specs.declared.ops.Range.{Range}
 use Rattle.markdown_base.specs.Questions.{Question, Answer, Answers}
@@ -8,7 +7,7 @@ use Rattle.markdown_base.specs.Source.{Source}
 use Rattle.markdown_base.specs.declared.event.Event.{Event}
 use Rattle.markdown_base.specs.declared.fault.Fault.{Fault}
 use Rattle.markdown_base.specs.declared.fault.Fault.TheVariants.{Memory}
-use Rattle.markdown_defs.specs.Callback.{Asks}
+use Rattle.markdown_defs.proofs.CallbackLemmas.{unasked}
 use Rattle.markdown_inline.specs.Balanced.{ranged}
 use Rattle.markdown_inline.specs.Elements.{Element, event, events_of}
 use Rattle.markdown_inline.specs.NextGives.{NextGives, IsPlacedOf}
@@ -20,14 +19,6 @@ use Rattle.markdown_links.specs.LinkEntries.{LinkEntryView, link_entries_of}
 use Rattle.markdown_links.specs.LinksOfText.{links_of_text}
 use Rattle.markdown_links.specs.LinksRead.{AreLinksOfAll}
 use Rattle.markdown_outline.specs.OutlineRead.{MeetsError, event_items, ranged_view}
-
--- with no callback nothing is asked, and there is none afterwards
-unasked : {F : Type 0} (step : F → Question → Option Answer → F → Type 0) (after : Option F) (questions : List Question)
-    (answers : Answers) → Asks step None questions answers after → (answers ≡ []) × (after ≡ None)
-unasked step after [] [] asked = (refl, sym asked)
-unasked step after [] (a ∷ answers) asked = absurd asked
-unasked step after (q ∷ questions) [] asked = absurd asked
-unasked step after (q ∷ questions) (a ∷ answers) asked = absurd asked
 
 module _ {F : Type 0} (step : F → Question → Option Answer → F → Type 0) where
   -- calls of `next`

@@ -1,7 +1,6 @@
 -- The lines of references, by their questions, and what a callback keeps that answers None to each.
-use Rattle.std.proofs.Common.{◌≡◌, ◌∙◌, ◌++◌, ◌∷◌, ℕ, List, [], Option, Some, None, ap}
-use Rattle.std.proofs.Common.{false, map, refl, subst, sym, true}
-use Rattle.std.proofs.Common.{append-nil, append_assoc, is_some}
+use Rattle.std.proofs.Common.{◌≡◌, ◌∙◌, ◌++◌, ◌∷◌, ℕ, List, [], Option, Some, None, ap, false, map, refl, subst, sym}
+use Rattle.std.proofs.Common.{true, append-nil, append_assoc, is_some}
 use Rattle.std.specs.List.{flat_map}
 use Rattle.std.proofs.lemmas.List.Folds.{flat_map-map}
 use Rattle.markdown_base.specs.Questions.{Answers, Question}

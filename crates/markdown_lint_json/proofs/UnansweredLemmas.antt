@@ -1,7 +1,6 @@
 -- Where all answers are None a text is read as where there are none: the same questions and the same events.
-use Rattle.std.proofs.Common.{◌≡◌, ◌∙◌, ◌++◌, ℕ, ◌==◌, Bool, true, false, List, [], ◌∷◌}
-use Rattle.std.proofs.Common.{Option, Some, None, ap, cond, map}
-use Rattle.std.proofs.Common.{nat_le, refl}
+use Rattle.std.proofs.Common.{◌≡◌, ◌∙◌, ◌++◌, ℕ, ◌==◌, Bool, true, false, List, [], ◌∷◌, Option, Some, None, ap, cond}
+use Rattle.std.proofs.Common.{map, nat_le, refl}
 use Rattle.std.specs.declared.ops.Range.{Range}
 use Rattle.markdown_base.specs.BlockParts.{DefinitionView}
 use Rattle.markdown_base.specs.Event.{end, hard_break, start, tag_end}

@@ -1,11 +1,12 @@
 -- What a merge gave of what its iterator gave: the merge of all, and at any moment a prefix of it.
-use Rattle.std.proofs.Common.{◌≡◌, ◌⊎◌, Bool, true, false, List, [], ◌∷◌, ◌++◌, map, Result, Option, Some, None}
-use Rattle.std.proofs.Common.{refl, sym, ap, subst, ◌∙◌, append_assoc, append-nil, inl, inr}
+use Rattle.std.proofs.Common.{◌≡◌, ◌⊎◌, Bool, true, false, List, [], ◌∷◌, ◌++◌, map, Result, Option, Some, None, refl}
+use Rattle.std.proofs.Common.{sym, ap, subst, ◌∙◌, append_assoc, append-nil, inl, inr}
 use Rattle.std.specs.Bool.{MatchBool}
 use Rattle.std.specs.Option.{option_map}
 use Rattle.std.specs.Iterator.{Count, Yields}
 use Rattle.std.proofs.lemmas.List.{map-append}
 use Rattle.markdown_base.specs.declared.fault.Fault.{Fault}
+use Rattle.markdown_base.proofs.ListLemmas.{cons-tail, cons-head}
 use Rattle.markdown_out.specs.Merge.{Item, merged, merge_answers}
 use Rattle.markdown_out.specs.MergeNext.{Gave, MergeState, PassesOn, Refuses}
 use Rattle.markdown_out.specs.OutLaws.{StaysEnded, merge_steps, IsNewMerge, IsMergeOfAll, IsMergeSoFar, GivesTheMerge}
@@ -18,12 +19,6 @@ abbrev pub AreNone : {A : Type 0} → List (Option A) → Type 0
 AreNone [] = Unit {0}
 AreNone (None ∷ rs) = AreNone rs
 AreNone (Some x ∷ rs) = ⊥
-
-pub cons-head : {A : Type 0} {x y : A} {xs ys : List A} → x ∷ xs ≡ y ∷ ys → x ≡ y
-cons-head {A} {x} {y} {xs} {ys} e = cc
-
-pub cons-tail : {A : Type 0} {x y : A} {xs ys : List A} → x ∷ xs ≡ y ∷ ys → xs ≡ ys
-cons-tail {A} {x} {y} {xs} {ys} e = cc
 
 some-same : {A : Type 0} {x y : A} → Some x ≡ Some y → x ≡ y
 some-same {A} {x} {y} e = cc

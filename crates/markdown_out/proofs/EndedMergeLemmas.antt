@@ -1,17 +1,18 @@
 -- A merge over an iterator that stays ended stays ended, and may be called again after None.
-use Rattle.std.proofs.Common.{◌≡◌, ◌⊎◌, Bool, true, false, List, [], ◌∷◌, ◌++◌, map, Result, Option, Some, None}
-use Rattle.std.proofs.Common.{refl, sym, ap, subst, ◌∙◌, append-nil, inl, inr}
+use Rattle.std.proofs.Common.{◌≡◌, ◌⊎◌, Bool, true, false, List, [], ◌∷◌, ◌++◌, map, Result, Option, Some, None, refl}
+use Rattle.std.proofs.Common.{sym, ap, subst, ◌∙◌, append-nil, inl, inr}
 use Rattle.std.specs.Bool.{MatchBool}
 use Rattle.std.specs.Iterator.{Count, at_most}
 use Rattle.std.specs.Option.{option_map}
 use Rattle.std.proofs.lemmas.List.{map-append}
 use Rattle.markdown_base.specs.declared.fault.Fault.{Fault}
+use Rattle.markdown_base.proofs.ListLemmas.{cons-tail}
 use Rattle.markdown_out.specs.Merge.{Item, merged, merge_answers}
 use Rattle.markdown_out.specs.MergeNext.{CanMerge, Gave, MergeState, PassesOn, Refuses, left_count}
 use Rattle.markdown_out.specs.OutLaws.{StaysEnded, merge_steps}
 use Rattle.markdown_out.proofs.DrainedMergeLemmas.{AreNone, IsCut, HasNoNone, answers-last, answers-nones}
-use Rattle.markdown_out.proofs.DrainedMergeLemmas.{answers-stretch, cons-tail, cut, ended, ended-nones, none-missing}
-use Rattle.markdown_out.proofs.DrainedMergeLemmas.{stretch, views-some}
+use Rattle.markdown_out.proofs.DrainedMergeLemmas.{answers-stretch, cut, ended, ended-nones, none-missing, stretch}
+use Rattle.markdown_out.proofs.DrainedMergeLemmas.{views-some}
 use Rattle.markdown_out.proofs.MergeNextLemmas.{gave-append}
 
 -- ---- lists of Nones

@@ -1,16 +1,13 @@
 -- Where the parts of an event are written one by one: what has been appended when memory is refused
 -- at one of them.
-use Rattle.std.proofs.Common.{◌≡◌, ◌<◌, ◌++◌, ℕ, Bool, false, List, [], ◌∷◌, length, codes, refl}
-use Rattle.std.proofs.Common.{arith, append_assoc}
+use Rattle.std.proofs.Common.{◌≡◌, ◌<◌, ◌++◌, ℕ, Bool, false, List, [], ◌∷◌, length, codes, refl, arith, append_assoc}
 use Rattle.std.specs.List.{flat_map}
 use Rattle.markdown_base.specs.Event.{HeadingView}
 use Rattle.markdown_out.specs.ByteLists.{AppendsPrefix, joined, fresh_after_bytes}
-use Rattle.markdown_out.specs.TagHtml.{heading_parts, code_block_parts, new_line, level_digit}
-use Rattle.markdown_out.specs.TagHtml.{id_attribute}
+use Rattle.markdown_out.specs.TagHtml.{heading_parts, code_block_parts, new_line, level_digit, id_attribute}
 use Rattle.markdown_out.specs.TagHtml.{class_attribute, further_class, other_attribute}
 use Rattle.markdown_out.specs.Escapes.{attribute_escaped}
-use Rattle.markdown_out.proofs.ByteListsLemmas.{fresh_after_bytes-append, prefix-first, prefix-after}
-use Rattle.markdown_out.proofs.ByteListsLemmas.{append-more}
+use Rattle.markdown_out.proofs.ByteListsLemmas.{fresh_after_bytes-append, prefix-first, prefix-after, append-more}
 
 -- a heading's Start does not end a line
 pub heading_ends : (before fresh : Bool) (h : HeadingView)

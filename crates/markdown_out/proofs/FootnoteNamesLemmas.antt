@@ -1,7 +1,6 @@
 -- Names at their places in an ordered map: what is found there, and what one more name makes of it.
 use Rattle.std.proofs.Common.{◌≡◌, ◌≤◌, ◌+◌, ◌++◌, ◌||◌, ◌&&◌, ◌==◌, ℕ, zero, suc, Bool, true, false, cond, not, List}
-use Rattle.std.proofs.Common.{[], ◌∷◌}
-use Rattle.std.proofs.Common.{length, Option, Some, None, refl, sym, ap, subst, ◌∙◌, arith, nat_lt, nat_eq}
+use Rattle.std.proofs.Common.{[], ◌∷◌, length, Option, Some, None, refl, sym, ap, subst, ◌∙◌, arith, nat_lt, nat_eq}
 use Rattle.std.specs.Prelude.{IsTrue, if◌then◌else◌}
 use Rattle.std.specs.Ordering.{is_eq, match_ordering}
 use Rattle.std.specs.declared.cmp.Ordering.{Ordering}
@@ -12,6 +11,7 @@ use Rattle.std.specs.List.{list_all, list_any, position_from, position_or_len, p
 use Rattle.std.specs.Map.{lookup}
 use Rattle.std.proofs.lemmas.Bool.Decides.{nat_tests}
 use Rattle.std.proofs.lemmas.Map.Text.{is_eq-slice_cmp}
+use Rattle.std.proofs.lemmas.Bool.{and_parts}
 use Rattle.markdown_base.specs.CowText.{text_of}
 use Rattle.markdown_out.specs.LookBacks.{are_same_names, with_name}
 use Rattle.markdown_out.specs.FootnoteNames.{name_cmp, name_at, first_names, names_in, IsNumbered}
@@ -129,10 +129,6 @@ below n es = list_all (λ e. nat_lt e.1 n) es
 is_other : (a n v : ℕ) → IsTrue (nat_lt a n) → n ≤ v → (a == v) ≡ false
 is_other a n v h l = grind (arith, nat_tests, h)
 
-true_of : (a b : Bool) → IsTrue (a && b) → IsTrue a × IsTrue b
-true_of true b h = (refl, h)
-true_of false b h = cc
-
 both_true : (a b : Bool) → IsTrue a → IsTrue b → IsTrue (a && b)
 both_true true b h k = k
 both_true false b h k = cc
@@ -145,10 +141,10 @@ name_at-new k n v [] b l h = ap (λ c. if c then text_of k.text else []) (same v
     same : (v : ℕ) → (v == v) ≡ true
     same v = grind (arith, nat_tests)
 name_at-new k n v (e ∷ es) b l h = by (name_cmp k e.0)
-    (name_at-new k n v es (true_of (nat_lt e.1 n) (below n es) b).1 l) h
+    (name_at-new k n v es (and_parts (nat_lt e.1 n) (below n es) b).1 l) h
   where
     parts : IsTrue (nat_lt e.1 n) × IsTrue (below n es)
-    parts = true_of (nat_lt e.1 n) (below n es) b
+    parts = and_parts (nat_lt e.1 n) (below n es) b
 
     same : (v : ℕ) → (v == v) ≡ true
     same v = grind (arith, nat_tests)
@@ -191,7 +187,7 @@ lt-self n = grind (arith, nat_tests)
 below-more : (n : ℕ) (es : Entries) → IsTrue (below n es) → IsTrue (below (suc n) es)
 below-more n [] b = b
 below-more n (e ∷ es) b =
-    let parts = true_of (nat_lt e.1 n) (below n es) b in
+    let parts = and_parts (nat_lt e.1 n) (below n es) b in
     both_true (nat_lt e.1 (suc n)) (below (suc n) es) (lt-more e.1 n parts.0)
     (below-more n es parts.1)
 
@@ -199,10 +195,10 @@ below-inserted : (k : Name) (n : ℕ) (es : Entries) → IsTrue (below n es)
     → IsTrue (below (suc n) (insert_entry name_cmp es k n))
 below-inserted k n [] b = both_true (nat_lt n (suc n)) true (lt-self n) b
 below-inserted k n (e ∷ es) b = by (name_cmp k e.0)
-    (below-inserted k n es (true_of (nat_lt e.1 n) (below n es) b).1)
+    (below-inserted k n es (and_parts (nat_lt e.1 n) (below n es) b).1)
   where
     parts : IsTrue (nat_lt e.1 n) × IsTrue (below n es)
-    parts = true_of (nat_lt e.1 n) (below n es) b
+    parts = and_parts (nat_lt e.1 n) (below n es) b
 
     by : (o : Ordering) → IsTrue (below (suc n) (insert_entry name_cmp es k n))
         → IsTrue (below (suc n) (match_ordering o ((k, n) ∷ e ∷ es) ((e.0, n) ∷ es)

@@ -1,6 +1,5 @@
 -- The HTML of a footnote's event is what precedes its number, the number, and what follows it.
-use Rattle.std.proofs.Common.{◌≡◌, ◌++◌, ℕ, Bool, List, [], ◌∷◌, None, codes, refl, ap, ◌∙◌, append-nil}
-use Rattle.std.proofs.Common.{append_assoc}
+use Rattle.std.proofs.Common.{◌≡◌, ◌++◌, ℕ, Bool, List, [], ◌∷◌, None, codes, refl, ap, ◌∙◌, append-nil, append_assoc}
 use Rattle.markdown_base.specs.Event.{start, footnote_reference, footnote_definition}
 use Rattle.markdown_out.specs.AltText.{alt_parts}
 use Rattle.markdown_out.specs.ByteLists.{AppendsPrefix, joined, fresh_after_bytes}

@@ -1,7 +1,6 @@
 -- What the loop over the events keeps, and what follows from it where the loop is left.
-use Rattle.std.proofs.Common.{◌≡◌, ◌≤◌, ◌^◌, ◌++◌, List, ℕ, [], ◌∷◌, length, map, reverse}
-use Rattle.std.proofs.Common.{refl, sym, ap, subst, ◌∙◌, append_assoc, append-nil, inl, inr}
-use Rattle.std.proofs.Common.{Result, Ok, Err, Option, Some, None}
+use Rattle.std.proofs.Common.{◌≡◌, ◌≤◌, ◌^◌, ◌++◌, List, ℕ, [], ◌∷◌, length, map, reverse, refl, sym, ap, subst, ◌∙◌}
+use Rattle.std.proofs.Common.{append_assoc, append-nil, inl, inr, Result, Ok, Err, Option, Some, None}
 use Rattle.std.proofs.lemmas.List.{map-append, reverse-append}
 use Rattle.std.proofs.iter.Next.{Yields-more}
 use Rattle.std.specs.Iterator.{Yields}
@@ -11,15 +10,15 @@ use Rattle.markdown_base.specs.declared.event.Event.{Event}
 use Rattle.markdown_base.specs.declared.fault.Fault.{Fault}
 use Rattle.markdown_base.specs.declared.fault.Fault.TheVariants.{Memory, Blocks, Depth}
 use Rattle.markdown_out.specs.ByteLists.{AppendsPrefix}
-use Rattle.markdown_out.specs.EventHtml.{past_by, event_bytes, bytes_before_by, closing}
-use Rattle.markdown_out.specs.EventHtml.{open_html_by, bytes_after_by, closing_after}
+use Rattle.markdown_out.specs.EventHtml.{past_by, event_bytes, bytes_before_by, closing, open_html_by, bytes_after_by}
+use Rattle.markdown_out.specs.EventHtml.{closing_after}
 use Rattle.markdown_out.specs.HtmlCorrect.{items, IsRenderedBy, StopsAtErrorBy, IsOwnFaultBy}
 use Rattle.markdown_out.specs.LookBacks.{Past, image_before, IsTooDeep}
 use Rattle.markdown_out.specs.Writer.{view_after, MayRefuse, IsFull}
 use Rattle.markdown_out.specs.declared.html.rules.HtmlRules.{HtmlRules}
 use Rattle.markdown_out.proofs.ByteListsLemmas.{prefix-empty}
-use Rattle.markdown_out.proofs.WriterLemmas.{capped, highest, event_bytes-capped, view_after-capped}
-use Rattle.markdown_out.proofs.WriterLemmas.{full_deep, full_silent}
+use Rattle.markdown_out.proofs.WriterLemmas.{capped, highest, event_bytes-capped, view_after-capped, full_deep}
+use Rattle.markdown_out.proofs.WriterLemmas.{full_silent}
 
 -- these events were read and their bytes appended, and the writer remembers what they tell
 pub record Wrote (rules : HtmlRules) (told : Past) (old new : List ℕ) (yielded : List (Result Event Fault)) : Type 0

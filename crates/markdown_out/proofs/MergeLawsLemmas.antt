@@ -3,11 +3,9 @@ use Rattle.std.proofs.Common.{◌≡◌, ◌⊎◌, ℕ, List, [], ◌∷◌, �
 use Rattle.std.proofs.Common.{inr}
 use Rattle.std.specs.List.{flat_map}
 use Rattle.markdown_base.specs.Event.{text, start, end, code, inline_math, display_math, html, inline_html}
-use Rattle.markdown_base.specs.Event.{footnote_reference, soft_break}
-use Rattle.markdown_base.specs.Event.{hard_break, rule, task_list_marker}
+use Rattle.markdown_base.specs.Event.{footnote_reference, soft_break, hard_break, rule, task_list_marker}
 use Rattle.markdown_out.specs.Merge.{Item, PlacedText, text_item, text_of_item, Run, alone, texts, before_runs, runs}
-use Rattle.markdown_out.specs.Merge.{last_text}
-use Rattle.markdown_out.specs.Merge.{unless_empty, run_items, merged}
+use Rattle.markdown_out.specs.Merge.{last_text, unless_empty, run_items, merged}
 use Rattle.markdown_out.specs.OutLaws.{AreApart, HasNoNeighbours}
 use Rattle.markdown_out.proofs.MergeLemmas.{merged-alone, merged-one, merged-lone_text}
 

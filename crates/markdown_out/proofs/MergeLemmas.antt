@@ -4,11 +4,9 @@ use Rattle.std.proofs.Common.{append_assoc, append-nil}
 use Rattle.std.specs.List.{flat_map}
 use Rattle.std.proofs.lemmas.List.{map-append}
 use Rattle.markdown_base.specs.Event.{text, start, end, code, inline_math, display_math, html, inline_html}
-use Rattle.markdown_base.specs.Event.{footnote_reference, soft_break}
-use Rattle.markdown_base.specs.Event.{hard_break, rule, task_list_marker}
+use Rattle.markdown_base.specs.Event.{footnote_reference, soft_break, hard_break, rule, task_list_marker}
 use Rattle.markdown_out.specs.Merge.{Item, PlacedText, text_item, text_of_item, Run, alone, texts, before_runs, runs}
-use Rattle.markdown_out.specs.Merge.{last_text}
-use Rattle.markdown_out.specs.Merge.{unless_empty, run_items, merged, merge_answers}
+use Rattle.markdown_out.specs.Merge.{last_text, unless_empty, run_items, merged, merge_answers}
 use Rattle.markdown_out.specs.TextForms.{Formed, boxed_form, boxed_through}
 
 -- the runs of a list that begins with no Text

@@ -1,18 +1,15 @@
 -- Merging changes no byte of the HTML: the HTML of a list of events read forwards, and that of runs.
 use Rattle.std.proofs.Common.{◌≡◌, ◌<◌, ℕ, Bool, true, false, List, [], ◌∷◌, ◌++◌, map, Ok, Err, Option, Some, None}
-use Rattle.std.proofs.Common.{length, reverse, refl}
-use Rattle.std.proofs.Common.{sym, ap, subst, ◌∙◌, append_assoc, append-nil, arith}
+use Rattle.std.proofs.Common.{length, reverse, refl, sym, ap, subst, ◌∙◌, append_assoc, append-nil, arith}
 use mathlib.Core.List.{reverse_aux}
 use Rattle.std.specs.List.{flat_map, AllByRecursion}
 use Rattle.std.proofs.lemmas.List.Concat.{flat_map-append}
 use Rattle.markdown_base.specs.Event.{EventView, text, start, end, code, inline_math, display_math, html, inline_html}
-use Rattle.markdown_base.specs.Event.{footnote_reference}
-use Rattle.markdown_base.specs.Event.{soft_break, hard_break, rule, task_list_marker}
+use Rattle.markdown_base.specs.Event.{footnote_reference, soft_break, hard_break, rule, task_list_marker}
 use Rattle.markdown_out.specs.ByteLists.{fresh_after_bytes}
 use Rattle.markdown_out.specs.Escapes.{text_escaped, text_byte, attribute_escaped, attribute_byte}
 use Rattle.markdown_out.specs.LookBacks.{Past, OpenImageView, unless_inside, metadata_after, head_after}
-use Rattle.markdown_out.specs.LookBacks.{cell_column_after}
-use Rattle.markdown_out.specs.LookBacks.{alignments_after, names_after, image_after, image_before}
+use Rattle.markdown_out.specs.LookBacks.{cell_column_after, alignments_after, names_after, image_after, image_before}
 use Rattle.markdown_out.specs.EventHtml.{event_bytes, bytes_by_image, fresh_after, past_of, bytes_before, closing}
 use Rattle.markdown_out.specs.EventHtml.{html_of}
 use Rattle.markdown_out.specs.Merge.{PlacedText, text_item, Run, alone, texts, before_runs, runs, last_text}

@@ -8,8 +8,7 @@ use Rattle.markdown_base.specs.Event.{EventView, event_view, text}
 use Rattle.markdown_base.specs.declared.event.Event.{Event}
 use Rattle.markdown_out.specs.HtmlCorrect.{items}
 use Rattle.markdown_out.specs.Merge.{Item, PlacedText, text_item, text_of_item, Run, alone, texts, before_runs, runs}
-use Rattle.markdown_out.specs.Merge.{last_text}
-use Rattle.markdown_out.specs.Merge.{unless_empty, run_items, merged}
+use Rattle.markdown_out.specs.Merge.{last_text, unless_empty, run_items, merged}
 use Rattle.markdown_out.specs.MergeNext.{item_view}
 use Rattle.markdown_out.specs.OutLaws.{RangedEvent, event_item, item_events, item_ranged, merged_events, merged_ranged}
 use Rattle.markdown_out.specs.OutLaws.{ranged_item}

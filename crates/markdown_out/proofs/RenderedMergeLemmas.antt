@@ -1,7 +1,6 @@
 -- What `push_html` makes of a merge: the HTML of the merge of the events.
 use Rattle.std.proofs.Common.{◌≡◌, ◌⊎◌, ℕ, true, false, List, [], ◌∷◌, ◌++◌, map, Ok, Err, Result, Option, Some, None}
-use Rattle.std.proofs.Common.{refl, sym, ap, subst}
-use Rattle.std.proofs.Common.{◌∙◌, append_assoc, append-nil, inl, inr}
+use Rattle.std.proofs.Common.{refl, sym, ap, subst, ◌∙◌, append_assoc, append-nil, inl, inr}
 use Rattle.std.specs.Bool.{MatchBool}
 use Rattle.std.specs.List.{flat_map}
 use Rattle.std.specs.Iterator.{Count, Yields, Drains}
@@ -11,11 +10,11 @@ use Rattle.markdown_base.specs.Event.{EventView, event_view}
 use Rattle.markdown_base.specs.declared.event.Event.{Event}
 use Rattle.markdown_base.specs.declared.fault.Fault.{Fault}
 use Rattle.markdown_base.specs.declared.fault.Fault.TheVariants.{Memory}
+use Rattle.markdown_base.proofs.ListLemmas.{cons-tail, cons-head}
 use Rattle.markdown_out.specs.EventHtml.{html_of, open_html}
 use Rattle.markdown_out.specs.HtmlCorrect.{items, GoesTooDeep, IsRendered, StopsAtError}
 use Rattle.markdown_out.specs.Merge.{Item, PlacedText, text_item, text_of_item, Run, alone, texts, before_runs, runs}
-use Rattle.markdown_out.specs.Merge.{last_text}
-use Rattle.markdown_out.specs.Merge.{unless_empty, run_items, merged}
+use Rattle.markdown_out.specs.Merge.{last_text, unless_empty, run_items, merged}
 use Rattle.markdown_out.specs.MergeNext.{MergeState, PassesOn, Refuses, formed_view, item_view}
 use Rattle.markdown_out.specs.EventRanges.{bare, nowhere}
 use Rattle.markdown_out.specs.OutLaws.{event_item, item_events, merged_events, StaysEnded, merge_steps, IsNewMerge}
@@ -166,12 +165,6 @@ merged-error xs fault ys =
     ap (flat_map (run_items nowhere)) (runs-error xs fault ys)
     ∙ flat_map-append (run_items nowhere) (runs xs) (alone (Err fault) ∷ runs ys)
 
-head-of : {A : Type 0} {x y : A} {xs ys : List A} → x ∷ xs ≡ y ∷ ys → x ≡ y
-head-of {A} {x} {y} {xs} {ys} e = cc
-
-tail-of : {A : Type 0} {x y : A} {xs ys : List A} → x ∷ xs ≡ y ∷ ys → xs ≡ ys
-tail-of {A} {x} {y} {xs} {ys} e = cc
-
 ok-error : (x : EventView × U) (fault : Fault) → Ok x ≡ Err fault → ⊥
 ok-error x fault e = cc
 
@@ -184,15 +177,15 @@ same-error f g e = cc
 -- the items before the first error, and the error
 same-until-error : (a b : List (Item U)) (f g : Fault) (ra rb : List (Item U)) → HasNoError a → HasNoError b
     → a ++ Err f ∷ ra ≡ b ++ Err g ∷ rb → (a ≡ b) × (f ≡ g)
-same-until-error [] [] f g ra rb h k e = (refl, same-error f g (head-of e))
-same-until-error [] (Ok y ∷ b) f g ra rb h k e = absurd (ok-error y f (sym (head-of e)))
+same-until-error [] [] f g ra rb h k e = (refl, same-error f g (cons-head e))
+same-until-error [] (Ok y ∷ b) f g ra rb h k e = absurd (ok-error y f (sym (cons-head e)))
 same-until-error [] (Err y ∷ b) f g ra rb h k e = absurd k
-same-until-error (Ok x ∷ a) [] f g ra rb h k e = absurd (ok-error x g (head-of e))
+same-until-error (Ok x ∷ a) [] f g ra rb h k e = absurd (ok-error x g (cons-head e))
 same-until-error (Err x ∷ a) b f g ra rb h k e = absurd h
 same-until-error (Ok x ∷ a) (Err y ∷ b) f g ra rb h k e = absurd k
 same-until-error (Ok x ∷ a) (Ok y ∷ b) f g ra rb h k e =
-    let rest = same-until-error a b f g ra rb h k (tail-of e) in
-    (ap (λ z. z ∷ a) (head-of e) ∙ ap (λ zs. Ok y ∷ zs) rest.0, rest.1)
+    let rest = same-until-error a b f g ra rb h k (cons-tail e) in
+    (ap (λ z. z ∷ a) (cons-head e) ∙ ap (λ zs. Ok y ∷ zs) rest.0, rest.1)
 
 -- items, cut at the first error
 record IsErrorCut (xs : List Raw) : Type 0 where
@@ -261,11 +254,11 @@ stopped xs views fault rest e = by_cut (error_cut xs)
 until_error : (a b : List (Item U)) (f : Fault) (ra rb : List (Item U)) → HasNoError b → a ++ Err f ∷ ra ≡ b ++ rb
     → (missing : List (Item U)) × (a ≡ b ++ missing)
 until_error a [] f ra rb h e = (a, refl)
-until_error [] (Ok y ∷ b) f ra rb h e = absurd (ok-error y f (sym (head-of e)))
+until_error [] (Ok y ∷ b) f ra rb h e = absurd (ok-error y f (sym (cons-head e)))
 until_error a (Err y ∷ b) f ra rb h e = absurd h
 until_error (x ∷ a) (Ok y ∷ b) f ra rb h e =
-    let rest = until_error a b f ra rb h (tail-of e) in
-    (rest.0, ap (λ z. z ∷ a) (head-of e) ∙ ap (λ zs. Ok y ∷ zs) rest.1)
+    let rest = until_error a b f ra rb h (cons-tail e) in
+    (rest.0, ap (λ z. z ∷ a) (cons-head e) ∙ ap (λ zs. Ok y ∷ zs) rest.1)
 
 -- items whose merge begins with these events begin with events of whose merge they are a prefix
 record IsBegun (xs : List Raw) (views : List EventView) : Type 0 where

@@ -1,28 +1,21 @@
 -- What the writer remembers, against what the events before tell: its column stops at the highest
 -- number, where no table has an alignment.
-use Rattle.std.proofs.Common.{◌≡◌, ◌≤◌, ◌+◌, ◌-◌, ◌^◌, ℕ, zero, suc, min, Bool, List, [], ◌∷◌}
-use Rattle.std.proofs.Common.{length, map, Option, Some, None}
-use Rattle.std.proofs.Common.{refl, sym, ap, subst, ◌∙◌, ◌⊎◌, inl, inr, arith, slice_get, codes}
+use Rattle.std.proofs.Common.{◌≡◌, ◌≤◌, ◌+◌, ◌-◌, ◌^◌, ℕ, zero, suc, min, Bool, List, [], ◌∷◌, length, map, Option}
+use Rattle.std.proofs.Common.{Some, None, refl, sym, ap, subst, ◌∙◌, ◌⊎◌, inl, inr, arith, slice_get, codes}
 use Rattle.std.proofs.Common.{if◌then◌else◌}
 use Rattle.std.specs.Option.{IsSomeAnd}
 use Rattle.std.specs.List.{flat_map}
 use Rattle.std.proofs.lemmas.List.Folds.{flat_map-map}
-use Rattle.markdown_base.specs.Event.{EventView, start, end, text}
-use Rattle.markdown_base.specs.Event.{TagView}
-use Rattle.markdown_base.specs.Event.{table_head, table_row}
-use Rattle.markdown_base.specs.Event.{table_cell}
+use Rattle.markdown_base.specs.Event.{EventView, start, end, text, TagView, table_head, table_row, table_cell}
 use Rattle.markdown_base.specs.declared.fault.Fault.{Fault}
 use Rattle.markdown_base.specs.declared.fault.Fault.TheVariants.{Depth}
 use Rattle.markdown_base.specs.declared.tag.TagEnd.TheVariants as closes
 use Rattle.markdown_out.specs.ByteLists.{joined, fresh_after_bytes}
-use Rattle.markdown_out.specs.EventHtml.{bytes_by_image, event_bytes, fresh_after}
-use Rattle.markdown_out.specs.EventHtml.{fresh_after_empty, past_by}
+use Rattle.markdown_out.specs.EventHtml.{bytes_by_image, event_bytes, fresh_after, fresh_after_empty, past_by}
 use Rattle.markdown_out.specs.TagHtml.{start_parts, cell_style}
-use Rattle.markdown_out.specs.LookBacks.{Past, OpenImageView, unless_inside, cell_column_after}
-use Rattle.markdown_out.specs.LookBacks.{metadata_after, head_after}
-use Rattle.markdown_out.specs.LookBacks.{alignments_after, names_after, image_after}
-use Rattle.markdown_out.specs.Writer.{piece_bytes, spelled, counted_after, view_after, IsFull}
-use Rattle.markdown_out.specs.Writer.{MayRefuse}
+use Rattle.markdown_out.specs.LookBacks.{Past, OpenImageView, unless_inside, cell_column_after, metadata_after}
+use Rattle.markdown_out.specs.LookBacks.{head_after, alignments_after, names_after, image_after}
+use Rattle.markdown_out.specs.Writer.{piece_bytes, spelled, counted_after, view_after, IsFull, MayRefuse}
 use Rattle.markdown_out.specs.declared.html.Piece.{Piece}
 use Rattle.markdown_out.specs.declared.html.rules.HtmlRules.{HtmlRules}
 use Rattle.markdown_out.proofs.ByteListsLemmas.{joined-flat_map}

@@ -1,7 +1,6 @@
 -- The outline of what a merge returns is that of what its iterator returns.
 use Rattle.std.proofs.Common.{◌≡◌, ◌⊎◌, ℕ, Bool, true, false, ◌||◌, List, [], ◌∷◌, ◌++◌, map, Ok, Err, Result, Option}
-use Rattle.std.proofs.Common.{Some, None}
-use Rattle.std.proofs.Common.{refl, sym, ap, subst, ◌∙◌, inl, inr}
+use Rattle.std.proofs.Common.{Some, None, refl, sym, ap, subst, ◌∙◌, inl, inr}
 use Rattle.std.specs.Bool.{MatchBool}
 use Rattle.std.specs.List.{flat_map, list_any}
 use Rattle.std.specs.Iterator.{Count, Drains, Yields}
@@ -10,8 +9,7 @@ use Rattle.markdown_base.specs.declared.event.Event.{Event}
 use Rattle.markdown_base.specs.declared.fault.Fault.{Fault}
 use Rattle.markdown_base.specs.declared.fault.Fault.TheVariants.{Memory}
 use Rattle.markdown_out.specs.Merge.{Item, PlacedText, text_item, text_of_item, Run, alone, texts, before_runs, runs}
-use Rattle.markdown_out.specs.Merge.{last_text}
-use Rattle.markdown_out.specs.Merge.{unless_empty, run_items, merged}
+use Rattle.markdown_out.specs.Merge.{last_text, unless_empty, run_items, merged}
 use Rattle.markdown_out.specs.MergeNext.{MergeState, PassesOn, Refuses, formed_view, item_view}
 use Rattle.markdown_out.specs.OutLaws.{StaysEnded, IsNewMerge, merge_steps}
 use Rattle.markdown_out.specs.EventRanges.{with_range, through_ranges}

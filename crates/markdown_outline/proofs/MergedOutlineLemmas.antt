@@ -1,19 +1,16 @@
 -- The outline of merged events is that of the events.
 use Rattle.std.proofs.Common.{◌≡◌, ◌⊎◌, ℕ, Bool, true, false, not, if◌then◌else◌, List, [], ◌∷◌, ◌++◌, map, Ok, Err}
-use Rattle.std.proofs.Common.{Option, Some, None}
-use Rattle.std.proofs.Common.{refl, sym, ap, subst, ◌∙◌, append_assoc, append-nil, inl, inr}
+use Rattle.std.proofs.Common.{Option, Some, None, refl, sym, ap, subst, ◌∙◌, append_assoc, append-nil, inl, inr}
 use Rattle.std.specs.Prelude.{is_some}
 use Rattle.std.specs.List.{flat_map}
 use Rattle.std.specs.declared.ops.Range.{Range}
 use Rattle.markdown_base.specs.Event.{EventView, HeadingView, text}
 use Rattle.markdown_out.specs.Merge.{Item, PlacedText, text_item, text_of_item, Run, alone, texts, before_runs, runs}
-use Rattle.markdown_out.specs.Merge.{last_text}
-use Rattle.markdown_out.specs.Merge.{unless_empty, run_items, merged}
+use Rattle.markdown_out.specs.Merge.{last_text, unless_empty, run_items, merged}
 use Rattle.markdown_out.specs.EventRanges.{through_ranges}
 use Rattle.markdown_out.proofs.MergeLawsLemmas.{IsText, text_or_none}
 use Rattle.markdown_outline.specs.Outline.{Ranged, EntryView, heading_entry, opened_heading, ends_heading, text_added}
-use Rattle.markdown_outline.specs.Outline.{joined_text, up_to_end}
-use Rattle.markdown_outline.specs.Outline.{opened_entry, entries_from, entries_of}
+use Rattle.markdown_outline.specs.Outline.{joined_text, up_to_end, opened_entry, entries_from, entries_of}
 use Rattle.markdown_outline.specs.OutlineLaws.{MergingKeepsOutline, merge_items}
 
 abbrev R : Type 0

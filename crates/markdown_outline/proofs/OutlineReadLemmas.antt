@@ -1,7 +1,6 @@
 -- What the loop over the events keeps, and what follows from it where the loop is left.
-use Rattle.std.proofs.Common.{◌≡◌, ◌<◌, ◌+◌, ℕ, false, List, [], ◌∷◌, ◌++◌, Ok, Err, Result, Option, Some, None, length}
-use Rattle.std.proofs.Common.{map}
-use Rattle.std.proofs.Common.{refl, sym, ap, subst, ◌∙◌, append_assoc, append-nil}
+use Rattle.std.proofs.Common.{◌≡◌, ◌<◌, ℕ, false, List, [], ◌∷◌, ◌++◌, Ok, Err, Result, Option, Some, None, length, map}
+use Rattle.std.proofs.Common.{sym, ap, subst, ◌∙◌, append_assoc, append-nil}
 use Rattle.std.specs.Iterator.{Yields}
 use Rattle.std.specs.declared.ops.Range.{Range}
 use Rattle.std.proofs.lemmas.List.{map-append}
@@ -32,14 +31,14 @@ TookIn-none state yielded none read = record {
   makes = λ later. ap (λ (s : EntriesView). all_entries s later) (sym none);
 }
 
-items-more : (events : List Placed) (e : Placed) (yielded : List (Result Placed Fault)) (item : Result Placed Fault)
+pub items-more : (events : List Placed) (e : Placed) (yielded : List (Result Placed Fault)) (item : Result Placed Fault)
     → yielded ≡ event_items events → item ≡ Ok e → yielded ++ item ∷ [] ≡ event_items (events ++ e ∷ [])
 items-more events e yielded item y i =
     ap (λ (ys : List (Result Placed Fault)). ys ++ item ∷ []) y
     ∙ ap (λ (x : Result Placed Fault). event_items events ++ x ∷ []) i
     ∙ sym (map-append (λ (e : Placed). Ok e) events (e ∷ []))
 
-views-more : (events : List Placed) (e : Placed) (later : List Ranged)
+pub views-more : (events : List Placed) (e : Placed) (later : List Ranged)
     → map ranged_view (events ++ e ∷ []) ++ later ≡ map ranged_view events ++ ranged_view e ∷ later
 views-more events e later =
     ap (λ (es : List Ranged). es ++ later) (map-append ranged_view events (e ∷ []))

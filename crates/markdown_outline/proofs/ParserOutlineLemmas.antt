@@ -1,7 +1,6 @@
 -- The outline of what a parser returns with its ranges is that of its reading, and so has the entries of the tree read.
 use Rattle.std.proofs.Common.{◌≡◌, ℕ, false, List, [], ◌∷◌, ◌++◌, map, Err, Option, Some, None, Result, refl, sym, ap}
-use Rattle.std.proofs.Common.{subst, ◌∙◌}
-use Rattle.std.proofs.Common.{append_assoc, append-nil}
+use Rattle.std.proofs.Common.{subst, ◌∙◌, append_assoc, append-nil}
 use Rattle.std.specs.Prelude.{is_some}
 use Rattle.std.specs.Iterator.{Drains, Yields}
 use Rattle.std.specs.declared.ops.Range.{Range}
@@ -17,8 +16,7 @@ use Rattle.markdown_inline.specs.Balanced.{ranged}
 use Rattle.markdown_inline.specs.Elements.{Element, Placed, events_of}
 use Rattle.markdown_inline.specs.NextGives.{NextGives, IsPlacedOf}
 use Rattle.markdown_inline.specs.ParserLeft.{ReadsBlocks, ReadsText, elements, offset_parser, parser_callback}
-use Rattle.markdown_inline.specs.ParserLeft.{parser_text}
-use Rattle.markdown_inline.specs.ParserLeft.{reading_of}
+use Rattle.markdown_inline.specs.ParserLeft.{parser_text, reading_of}
 use Rattle.markdown_inline.specs.ResolvedDocument.{resolved_blocks}
 use Rattle.markdown_inline.specs.Runs.{AreOf, GaveRest}
 use Rattle.markdown_inline.specs.declared.walk.OffsetIter.{OffsetIter}

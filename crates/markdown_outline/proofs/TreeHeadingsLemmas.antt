@@ -1,34 +1,36 @@
 -- Resolving makes no heading: where no heading of a block result contains another, none does in its tree with chains
 -- resolved.
-use Rattle.std.proofs.Common.{◌≡◌, ℕ, Bool, true, false, List, ◌||◌, ◌&&◌, refl, sym, ap, subst, ◌∙◌}
-use Rattle.std.specs.Prelude.{IsTrue, is_some, not, slice_range}
+use Rattle.std.proofs.Common.{◌≡◌, ℕ, Bool, true, false, List, refl, sym, ap, subst, ◌∙◌}
+use Rattle.std.specs.Prelude.{IsTrue, is_some, not}
+use Rattle.std.proofs.lemmas.Bool.{true≢false, or_right}
 use Rattle.markdown_base.specs.BlockTree.{Numbered, tree_of}
 use Rattle.markdown_base.specs.Event.{TagView, heading}
 use Rattle.markdown_base.specs.Forest.{Forest, nil, node, Throughout, Each, relabelled}
-use Rattle.markdown_base.specs.Item.{is_open, is_inline, is_childless}
+use Rattle.markdown_base.specs.Item.{is_open, is_inline}
 use Rattle.markdown_base.specs.Questions.{Answers}
 use Rattle.markdown_base.specs.WellFormed.{AllKeepRules, PartCounts, all_inline, counts_of, has_open}
 use Rattle.markdown_base.specs.declared.item.ItemBody.{ItemBody}
 use Rattle.markdown_base.specs.declared.item.ItemBody.TheVariants as body
+use Rattle.markdown_base.proofs.BoolLemmas.{and_first, and_second}
+use Rattle.markdown_base.proofs.WellFormedLemmas.{inline_childless}
 use Rattle.markdown_blocks.specs.Blocks.{block_parts, text_of_blocks, block_arena}
 use Rattle.markdown_blocks.specs.declared.blocks.Blocks.{Blocks}
 use Rattle.markdown_builder.specs.HeadingsHoldInline.{is_heading_block, HeadingsHoldInline}
 use Rattle.markdown_document.specs.EnclosingBlocks.{EnclosingBlocks, inside_node, no_blocks}
 use Rattle.markdown_document.specs.ChainRest.{cut_shape}
-use Rattle.markdown_document.specs.Document.{Shape, leaf, enclosed, plain, backslash_break, unresolved, TreeNode, Plain}
-use Rattle.markdown_document.specs.Document.{document}
+use Rattle.markdown_document.specs.Document.{Shape, leaf, enclosed, plain, backslash_break, unresolved, Plain, document}
 use Rattle.markdown_document.specs.Document.{is_unresolved, tree_node_of, no_notes, shape_of}
 use Rattle.markdown_document.specs.Setting.{ReferenceState, Setting, setting_of}
 use Rattle.markdown_document.specs.Tables.{Tables, tables_at_start}
 use Rattle.markdown_document.proofs.PlaceLemmas.{open-unresolved}
 use Rattle.markdown_inline.specs.ParserLeft.{state_at_start, rules_of}
-use Rattle.markdown_inline.specs.ResolvedDocument.{Resolving, no_trees, resolved_blocks, resolved_chain}
-use Rattle.markdown_inline.specs.ResolvedDocument.{resolved_document, resolved_tree}
+use Rattle.markdown_inline.specs.ResolvedDocument.{Resolving, resolved_blocks, resolved_chain, resolved_document}
+use Rattle.markdown_inline.specs.ResolvedDocument.{resolved_tree}
 use Rattle.markdown_inline.specs.ResolvedShapes.{IsMadeShape, IsMadeTag}
 use Rattle.markdown_inline.proofs.ResolvedShapesLemmas.{shapes-law}
 use Rattle.markdown_outline.specs.Outline.{tag_heading}
-use Rattle.markdown_outline.specs.TreeOutline.{HeadingsApart, HeadingsOfTextsApart, tree_heading}
-use Rattle.markdown_outline.proofs.TreeOutlineLemmas.{not_heading, NoHeading, reads_below, Apart, AllApart}
+use Rattle.markdown_outline.specs.TreeOutline.{HeadingsApart, HeadingsOfTextsApart}
+use Rattle.markdown_outline.proofs.TreeOutlineLemmas.{not_heading, NoHeading, reads_below, AllApart}
 
 -- ---- what chains become
 
@@ -93,21 +95,18 @@ AllKept f = Throughout KeptApart f
 abbrev GivesApart : Resolving (Unit {0}) → Type 0
 GivesApart r = (state : ReferenceState) → AllApart (r state).trees
 
-not_both : true ≡ false → ⊥
-not_both e = cc e
-
 tree_apart : (shape : Shape) (a : Plain) (below after chain : Resolving (Unit {0})) → a.part.shape ≡ shape
     → (not_heading a.part.shape ≡ false → GivesNone below) → GivesApart below → GivesApart after
     → (is_unresolved a.part.shape ≡ true → GivesNone chain) → GivesApart (resolved_tree shape a below after chain)
 tree_apart (leaf e origins) a below after chain is n i l w state =
     (record { in_heading = λ h. tt; unread = λ h. tt }, tt, l state)
 tree_apart (enclosed tag origins) a below after chain is n i l w state = (
-  record { in_heading = λ h. n h state; unread = λ h. absurd (not_both (sym (ap reads_below is) ∙ h)) },
+  record { in_heading = λ h. n h state; unread = λ h. absurd (true≢false (sym (ap reads_below is) ∙ h)) },
   i state,
   l (below state).state,
 )
 tree_apart plain a below after chain is n i l w state = (
-  record { in_heading = λ h. n h state; unread = λ h. absurd (not_both (sym (ap reads_below is) ∙ h)) },
+  record { in_heading = λ h. n h state; unread = λ h. absurd (true≢false (sym (ap reads_below is) ∙ h)) },
   i state,
   l (below state).state,
 )
@@ -148,26 +147,9 @@ body_heading tables source (body.HardBreak true) h = cc h
 body_heading tables source (body.HardBreak false) h = cc h
 body_heading tables source other h = cc h
 
--- an inline item has no children, and is no heading
-inline_childless : (b : ItemBody) → is_inline b ≡ true → IsTrue (is_childless b)
-inline_childless body.Rule h = cc h
-inline_childless other h = h
-
 inline_none : (b : ItemBody) → is_inline b ≡ true → is_heading_block b ≡ false
 inline_none (body.Heading level attributes) h = cc h
 inline_none other h = refl
-
-left_of : (a b : Bool) → (a && b) ≡ true → a ≡ true
-left_of true b h = refl
-left_of false b h = cc h
-
-right_of : (a b : Bool) → (a && b) ≡ true → b ≡ true
-right_of true b h = h
-right_of false b h = cc h
-
-or_right : (a b : Bool) → b ≡ true → (a || b) ≡ true
-or_right true b h = refl
-or_right false b h = h
 
 module _ (source : List ℕ) (tables : Tables) (counts : PartCounts) where
   abbrev labelled : Forest Numbered → Forest Plain
@@ -182,10 +164,10 @@ module _ (source : List ℕ) (tables : Tables) (counts : PartCounts) where
   chain_of_inline : (f : Forest Numbered) → AllKeepRules source counts f → all_inline f ≡ true → NoHeadingBlock f
   chain_of_inline nil k h = tt
   chain_of_inline (node a below after) k h =
-      let here = left_of (is_inline a.item.body) (all_inline after) h in (
+      let here = and_first (is_inline a.item.body) (all_inline after) h in (
         inline_none a.item.body here,
         subst NoHeadingBlock (sym (k.0.chains_are_kept.childless (inline_childless a.item.body here))) tt,
-        chain_of_inline after k.2 (right_of (is_inline a.item.body) (all_inline after) h),
+        chain_of_inline after k.2 (and_second (is_inline a.item.body) (all_inline after) h),
       )
 
   kept_apart : (f : Forest Numbered) → AllKeepRules source counts f → (has_open f ≡ true → all_inline f ≡ true)
@@ -201,7 +183,7 @@ module _ (source : List ℕ) (tables : Tables) (counts : PartCounts) where
           labels_none (node a below after) (chain_of_inline (node a below after) k (h (rw o refl)));
     },
     kept_apart below k.1 k.0.chains_are_kept.inline_only p.1,
-    kept_apart after k.2 (λ o. right_of (is_inline a.item.body) (all_inline after)
+    kept_apart after k.2 (λ o. and_second (is_inline a.item.body) (all_inline after)
         (h (or_right (is_open a.item.body) (has_open after) o))) p.2,
   )
 

@@ -1,7 +1,6 @@
 -- The outline of the events of trees has the entries of their headings, where none of these contains another.
 use Rattle.std.proofs.Common.{◌≡◌, ℕ, Bool, true, false, List, [], ◌∷◌, ◌++◌, map, Option, Some, None, refl, sym, ap}
-use Rattle.std.proofs.Common.{◌∙◌}
-use Rattle.std.proofs.Common.{append_assoc, append-nil}
+use Rattle.std.proofs.Common.{◌∙◌, append_assoc, append-nil}
 use Rattle.std.specs.Prelude.{IsTrue, is_some, not, if◌then◌else◌}
 use Rattle.std.specs.declared.ops.Range.{Range}
 use Rattle.std.proofs.lemmas.List.{map-append}
@@ -13,8 +12,7 @@ use Rattle.markdown_inline.specs.Balanced.{ranged}
 use Rattle.markdown_inline.specs.Elements.{Placed}
 use Rattle.markdown_inline.specs.TreeReading.{GivesBoth, IsLone, events_in, tree_events}
 use Rattle.markdown_outline.specs.Outline.{Ranged, EntryView, tag_heading, opened_heading, is_heading, ends_heading}
-use Rattle.markdown_outline.specs.Outline.{joined_text}
-use Rattle.markdown_outline.specs.Outline.{up_to_end, opened_entry, entries_from, entries_of}
+use Rattle.markdown_outline.specs.Outline.{joined_text, up_to_end, opened_entry, entries_from, entries_of}
 use Rattle.markdown_outline.specs.TreeOutline.{tree_heading, own_entry, tree_entries}
 
 -- a tree is no heading

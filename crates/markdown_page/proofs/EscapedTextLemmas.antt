@@ -1,13 +1,12 @@
 -- What is written for a character stays inside.
-use Rattle.std.proofs.Common.{◌≡◌, ◌∙◌, ℕ, suc, ◌<◌, ◌≤◌, List, [], ◌∷◌, ◌++◌, true, false, refl}
-use Rattle.std.proofs.Common.{sym, ap, arith}
+use Rattle.std.proofs.Common.{◌≡◌, ◌∙◌, ℕ, suc, ◌<◌, ◌≤◌, List, [], ◌∷◌, ◌++◌, true, false, refl, sym, ap, arith}
 use Rattle.std.proofs.Common.{length, get_or, ◌==◌, encode_utf8, flat_map, append-nil, nat_lt}
 use Rattle.std.proofs.lemmas.Bool.Decides.{nat_tests}
 use Rattle.std.proofs.lemmas.Str.{inside_one}
 use Rattle.markdown_base.specs.Bytes.{ampersand, double_quote, greater_than, less_than}
+use Rattle.markdown_base.proofs.BoolLemmas.{by_test}
 use Rattle.markdown_page.specs.EscapedText.{is_inert_byte, stays_inside}
 use Rattle.markdown_page.specs.PageHtml.{html_char}
-use Rattle.markdown_page.proofs.LineLemmas.{by_test}
 
 -- a byte that is none of the four is no `&`
 inert_other : (b : ℕ) → is_inert_byte b ≡ true → (b == ampersand) ≡ false

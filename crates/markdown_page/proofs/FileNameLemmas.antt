@@ -1,6 +1,6 @@
 -- What stands before and after the last byte of a kind in a name.
-use Rattle.std.proofs.Common.{◌≡◌, ◌∙◌, ℕ, ◌+◌, ◌-◌, ◌<◌, ◌≤◌, List, [], true, not, refl, sym, ap, arith}
-use Rattle.std.proofs.Common.{length, take, drop, get_or, ◌==◌}
+use Rattle.std.proofs.Common.{◌≡◌, ◌∙◌, ℕ, ◌+◌, ◌-◌, ◌<◌, ◌≤◌, List, [], true, not, refl, sym, ap, arith, length, take}
+use Rattle.std.proofs.Common.{drop, get_or, ◌==◌}
 use Rattle.std.specs.List.{after_last, before_last, suffix_len}
 use Rattle.std.specs.Str.{NoCharPasses}
 use Rattle.std.specs.Str.Pattern.{RFindsChar, SplitsAroundMatch}
@@ -9,7 +9,7 @@ use Rattle.std.proofs.lemmas.List.{get_or-drop, length-drop}
 use Rattle.std.proofs.lemmas.Str.{len_utf8_ascii}
 use Rattle.std.proofs.lemmas.List.Sums.{suffix_len_is}
 use Rattle.std.proofs.lemmas.Str.Pattern.{NoCharPasses-char}
-use Rattle.markdown_page.proofs.LineLemmas.{by_test}
+use Rattle.markdown_base.proofs.BoolLemmas.{by_test}
 
 module _ (c : ℕ) (small : c < 128) (name : List ℕ) (n : ℕ) (in_name : n ≤ length name)
     (none : NoCharPasses (λ d. d == c) (drop n name)) (last : 0 < n → get_or name (n - 1) 0 ≡ c) where

@@ -1,9 +1,7 @@
 -- What one character more or fewer makes of what is read of a line, and what its bytes are.
-use Rattle.std.proofs.Common.{◌≡◌, ◌∙◌, ℕ, List, [], ◌∷◌, ◌++◌, Bool, true, false, refl, sym, ap}
-use Rattle.std.proofs.Common.{length, reverse, chars, encode_utf8, encode_utf8_all, IsUtf8, Option}
-use Rattle.std.proofs.Common.{Some, None}
-use Rattle.std.proofs.Common.{append-nil, option_map, MatchOption}
-use Rattle.std.proofs.Common.{codes, zero, suc, ◌==◌, if◌then◌else◌, nat_lt, lit<, arith}
+use Rattle.std.proofs.Common.{◌≡◌, ◌∙◌, ℕ, List, [], ◌∷◌, ◌++◌, Bool, true, false, refl, sym, ap, length, reverse}
+use Rattle.std.proofs.Common.{chars, encode_utf8, encode_utf8_all, IsUtf8, Option, Some, None, append-nil, option_map}
+use Rattle.std.proofs.Common.{MatchOption, codes, zero, suc, ◌==◌, if◌then◌else◌, nat_lt, lit<, arith}
 use Rattle.std.proofs.lemmas.Bool.Decides.{nat_tests}
 use Rattle.std.specs.Str.{IsAscii}
 use Rattle.std.proofs.lemmas.Bool.{eq-eqb, eqb-true}
@@ -14,11 +12,7 @@ use Rattle.std.proofs.lemmas.Str.{chars_past_char, chars-nil, chars-append, char
 use Rattle.std.proofs.lemmas.Str.{encodes-append, encodes-chars}
 use Rattle.std.proofs.lemmas.List.{nil_from_length, reverse-append, reverse-reverse}
 use Rattle.markdown_page.specs.MetadataTitle.{is_gap, past_gap, up_to_gap, text_after}
-
--- a fact that holds in either case
-pub by_test : {P : Type 0} (b : Bool) → (b ≡ true → P) → (b ≡ false → P) → P
-by_test true holds fails = holds refl
-by_test false holds fails = fails refl
+use Rattle.markdown_base.proofs.BoolLemmas.{by_test}
 
 -- the characters of an empty text
 pub chars_of_nothing : (text : List ℕ) → length text ≡ 0 → chars text ≡ []

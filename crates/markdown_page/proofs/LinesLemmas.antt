@@ -1,12 +1,10 @@
 -- What is taken off the lines of a text where it is cut at its first line break.
-use Rattle.std.proofs.Common.{◌≡◌, ◌∙◌, ℕ, zero, suc, ◌<◌, List, [], ◌∷◌, ◌++◌, Bool, true, false}
-use Rattle.std.proofs.Common.{sym, ap, arith}
-use Rattle.std.proofs.Common.{length, take, drop, chars, encode_utf8, IsUtf8, Option, Some, None}
-use Rattle.std.proofs.Common.{MatchOption}
+use Rattle.std.proofs.Common.{◌≡◌, ◌∙◌, ℕ, zero, suc, ◌<◌, List, [], ◌∷◌, ◌++◌, Bool, true, false, sym, ap, arith}
+use Rattle.std.proofs.Common.{length, take, drop, chars, encode_utf8, IsUtf8, Option, Some, None, MatchOption, get_or}
+use Rattle.std.proofs.Common.{◌==◌, lit<}
 use Rattle.std.specs.List.{All}
 use Rattle.std.specs.Str.{NonePass, NoCharPasses}
 use Rattle.std.specs.Str.Pattern.{FindsBy, HasCharAt, IsSplitAtFirstMatch}
-use Rattle.std.proofs.Common.{get_or, ◌==◌, lit<}
 use Rattle.std.proofs.lemmas.Bool.{eqb-true}
 use Rattle.markdown_base.specs.Bytes.{carriage_return, line_feed}
 use Rattle.std.proofs.lemmas.List.{length-drop, take-append-drop}
@@ -15,7 +13,7 @@ use Rattle.std.proofs.lemmas.Str.{IsCharBoundary-before_ascii, IsUtf8-drop, IsUt
 use Rattle.std.proofs.lemmas.Str.{chars_from_encodes, chars_past_char, encode_ascii, len_utf8_bounds}
 use Rattle.markdown_page.specs.MetadataTitle.{first_title_text, is_line_break, metadata_lines}
 use Rattle.markdown_base.specs.declared.tag.MetadataBlockKind.{MetadataBlockKind}
-use Rattle.markdown_page.proofs.LineLemmas.{by_test}
+use Rattle.markdown_base.proofs.BoolLemmas.{by_test}
 
 -- the lines that are left, where any are
 abbrev pub lines_left : (more : Bool) → List ℕ → List (List ℕ)

@@ -1,14 +1,12 @@
 -- What is read of a value in quotes, character by character.
 use Rattle.std.proofs.Common.{◌≡◌, ◌∙◌, ℕ, List, [], ◌∷◌, ◌++◌, Bool, true, false, refl, sym, ap, ◌==◌, ◌&&◌, rules}
-use Rattle.std.proofs.Common.{encode_utf8, encode_utf8_all, Option, Some, None, append_assoc, append-nil}
-use Rattle.std.proofs.Common.{option_map}
+use Rattle.std.proofs.Common.{encode_utf8, encode_utf8_all, Option, Some, None, append_assoc, append-nil, option_map}
 use Rattle.markdown_base.specs.Bytes.{apostrophe, backslash, double_quote}
 use Rattle.markdown_base.specs.declared.tag.MetadataBlockKind.{MetadataBlockKind}
+use Rattle.markdown_base.proofs.BoolLemmas.{by_test}
 use Rattle.markdown_page.specs.MetadataTitle.{can_be_escaped, double_quoted, may_follow_quotes, onto_value}
-use Rattle.markdown_page.specs.MetadataTitle.{single_quoted}
-use Rattle.markdown_page.specs.MetadataTitle.{starts_with_char, value_in_quotes}
+use Rattle.markdown_page.specs.MetadataTitle.{single_quoted, starts_with_char, value_in_quotes}
 use Rattle.std.proofs.lemmas.Bool.{eqb-true}
-use Rattle.markdown_page.proofs.LineLemmas.{by_test}
 
 -- a value in quotes, of which these bytes were read before, and what follows it
 abbrev pub with_bytes : List ℕ → Option (List ℕ × List ℕ) → Option (List ℕ × List ℕ)

@@ -1,6 +1,5 @@
 -- What one character more makes of what is read of a value in no quotes.
-use Rattle.std.proofs.Common.{◌≡◌, ℕ, List, [], ◌∷◌, ◌++◌, true, false, not, refl}
-use Rattle.std.proofs.Common.{chars, encode_utf8, IsUtf8}
+use Rattle.std.proofs.Common.{◌≡◌, ℕ, List, [], ◌∷◌, ◌++◌, true, false, not, refl, chars, encode_utf8, IsUtf8}
 use Rattle.std.proofs.lemmas.Str.{chars_past_char}
 use Rattle.markdown_page.specs.MetadataTitle.{before_comment, begins_comment, begins_plain_value, ends_key, has_key}
 use Rattle.markdown_page.specs.MetadataTitle.{is_gap_or_nothing, is_yaml_indicator, marks_alone}

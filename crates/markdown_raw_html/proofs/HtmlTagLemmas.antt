@@ -1,16 +1,14 @@
 -- Parts of tags: none takes more bytes than there are, and a part that comes often.
 use Rattle.std.proofs.Common.{◌≡◌, ℕ, suc, zero, ◌+◌, ◌-◌, ◌<◌, ◌≤◌, ◌==◌, List, [], ◌∷◌, Bool, not, Option, Some, None}
-use Rattle.std.proofs.Common.{IfSome}
-use Rattle.std.proofs.Common.{option_and_then, unwrap_or, length, drop, refl, arith, sym, ap}
+use Rattle.std.proofs.Common.{IfSome, option_and_then, unwrap_or, length, drop, refl, arith, sym, ap}
 use Rattle.std.proofs.lemmas.Bool.{cond_both}
 use Rattle.std.proofs.lemmas.List.{length-drop}
 use Rattle.std.specs.List.{prefix_len}
 use Rattle.std.specs.Char.{is_ascii_alphabetic}
 use Rattle.std.specs.Option.{option_map, option_map_or, option_or}
 use Rattle.markdown_raw_html.specs.HtmlTag.{TagPart, all, attribute, both, byte, either, html_tag, nonempty, nonzero}
-use Rattle.markdown_raw_html.specs.HtmlTag.{often, often_past}
-use Rattle.markdown_raw_html.specs.HtmlTag.{one, optional, quoted_value, tag_name, white_space, is_tag_blank}
-use Rattle.markdown_raw_html.specs.HtmlTag.{in_unquoted}
+use Rattle.markdown_raw_html.specs.HtmlTag.{often, often_past, one, optional, quoted_value, tag_name, white_space}
+use Rattle.markdown_raw_html.specs.HtmlTag.{is_tag_blank, in_unquoted}
 use Rattle.markdown_raw_html.specs.TagSteps.{after_part}
 use Rattle.markdown_raw_html.specs.TagText.{source_after, source_after_byte, text_in}
 use Rattle.markdown_scan.specs.LinePrefix.{prefix_after}

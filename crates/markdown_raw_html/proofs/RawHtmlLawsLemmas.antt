@@ -1,7 +1,6 @@
 -- Lemmas of the laws of raw HTML.
 use Rattle.std.proofs.Common.{zero, ◌-◌, ◌<◌, ◌≡◌, suc, arith, ℕ, ◌+◌, ◌==◌, List, [], ◌∷◌, false, Option, Some, None}
-use Rattle.std.proofs.Common.{drop, length, get_or}
-use Rattle.std.proofs.Common.{option_and_then}
+use Rattle.std.proofs.Common.{drop, length, get_or, option_and_then}
 use Rattle.std.proofs.lemmas.Bool.{cond_both, eqb-true}
 use Rattle.std.specs.Prelude.{IfSome}
 use Rattle.std.specs.Option.{option_map, option_or}

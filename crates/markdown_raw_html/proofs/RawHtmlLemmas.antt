@@ -1,16 +1,15 @@
 -- The first occurrence of closing bytes.
 use Rattle.std.proofs.Common.{◌≡◌, ℕ, suc, zero, ◌+◌, ◌-◌, ◌<◌, ◌≤◌, List, [], ◌∷◌, Bool, true, false, cond, Option}
-use Rattle.std.proofs.Common.{Some, None, IfSome}
-use Rattle.std.proofs.Common.{length, drop, get_or, codes, refl, arith, ◌∙◌, sym, ap, lit≤}
+use Rattle.std.proofs.Common.{Some, None, IfSome, length, drop, get_or, codes, refl, arith, ◌∙◌, sym, ap, lit≤}
 use Rattle.std.proofs.lemmas.Bool.{cond_both, cond-true}
 use Rattle.std.proofs.lemmas.List.{drop-drop, length-drop, get_or-drop}
 use Rattle.std.specs.List.{slice_index}
 use Rattle.std.specs.Option.{option_map}
 use Rattle.markdown_scan.specs.Beginnings.{begins_with, begins_with_letter}
 use Rattle.markdown_raw_html.specs.RawHtml.{cdata_section, comment, declaration, end_from, processing_instruction}
-use Rattle.markdown_raw_html.specs.RawHtml.{through_first}
-use Rattle.markdown_raw_html.specs.RawHtml.{through_first_after}
+use Rattle.markdown_raw_html.specs.RawHtml.{through_first, through_first_after}
 use Rattle.markdown_scan.proofs.BeginsWithLemmas.{begins_with-fits, begins_with-reads}
+use Rattle.markdown_base.proofs.OptionLemmas.{added_twice}
 
 -- bytes that do not contain them do not contain them from a later offset on
 pub none_later : (closing : List ℕ) (n : ℕ) (bytes : List ℕ) → through_first closing bytes ≡ None
@@ -35,12 +34,6 @@ none_past closing text from start none after =
     let past = none_later closing (start - from) (drop from text) none in
     let whole : from + (start - from) ≡ start = omega arith in
     sym (ap (option_map (λ n. start + n)) (rw (drop-drop, whole) at past))
-
--- added twice
-pub added_twice : (n m : ℕ) (found : Option ℕ)
-    → option_map (λ k. n + k) (option_map (λ k. m + k) found) ≡ option_map (λ k. n + m + k) found
-added_twice n m None = refl
-added_twice n m (Some k) = ap Some (omega arith)
 
 -- what is found after the first n bytes is found from that offset on
 pub end_after : (closing text : List ℕ) (start n : ℕ)

@@ -1,8 +1,7 @@
 -- A tag in its source: how many bytes it has, and that it ends with `>` there.
 use Rattle.std.proofs.Common.{◌≡◌, ℕ, suc, zero, ◌+◌, ◌-◌, ◌<◌, ◌≤◌, ◌==◌, List, [], ◌∷◌, ◌++◌, Option, Some, None}
-use Rattle.std.proofs.Common.{IfSome, option_and_then}
-use Rattle.std.proofs.Common.{unwrap_or, length, drop, take, get_or, refl, arith, ◌∙◌, sym, ap, IsUtf8, IsCharBoundary}
-use Rattle.std.proofs.Common.{◌⊎◌, inl, inr}
+use Rattle.std.proofs.Common.{IfSome, option_and_then, unwrap_or, length, drop, take, get_or, refl, arith, ◌∙◌, sym, ap}
+use Rattle.std.proofs.Common.{IsUtf8, IsCharBoundary, ◌⊎◌, inl, inr}
 use Rattle.std.proofs.lemmas.Bool.{cases_lt, cond_both, eqb-true}
 use Rattle.std.proofs.lemmas.List.{drop-drop, drop_all, drop_more, get_or-drop, length-drop, take_more}
 use Rattle.std.proofs.lemmas.Str.{IsCharBoundary-after_ascii}
@@ -177,10 +176,10 @@ Closes-html_tag =
     (Closes-both _ _ (Closes-both _ _ (Closes-both _ _ (Closes-both _ _ Closes-byte))))
 
 -- what is left after some bytes is an end of the source
-IsEnd : List ℕ → List ℕ → Type 0
+unfoldable pub IsEnd : List ℕ → List ℕ → Type 0
 IsEnd source left = (from : ℕ) × (left ≡ drop from source)
 
-IsEnd-source_after : (skipped : List ℕ → Option ℕ) (n : ℕ) (source : List ℕ)
+pub IsEnd-source_after : (skipped : List ℕ → Option ℕ) (n : ℕ) (source : List ℕ)
     → IsEnd source (source_after skipped n source)
 unfolding IsEnd
 IsEnd-source_after skipped zero source = (0, refl)
@@ -201,7 +200,7 @@ IsEnd-source_after skipped (suc n) (b ∷ source) =
     later (Some k) h = (suc (k + h.0), h.1 ∙ drop-drop h.0 k source)
 
 -- a text that goes on with `>`
-angle_bracket : (skipped : List ℕ → Option ℕ) (source : List ℕ)
+pub angle_bracket : (skipped : List ℕ → Option ℕ) (source : List ℕ)
     → 1 ≤ length (text_in skipped source) → get_or (text_in skipped source) 0 0 ≡ 62
     → source ≡ 62 ∷ source_after skipped 1 source
 angle_bracket skipped [] some is = absurd (omega arith)

@@ -1,7 +1,6 @@
 -- The text of a tag and the source that is left after a part of it.
 use Rattle.std.proofs.Common.{◌≡◌, ℕ, suc, zero, ◌+◌, List, [], ◌∷◌, Bool, true, false, Option, Some, None}
-use Rattle.std.proofs.Common.{option_and_then, unwrap_or}
-use Rattle.std.proofs.Common.{drop, refl, arith, ◌∙◌, sym, ap}
+use Rattle.std.proofs.Common.{option_and_then, unwrap_or, drop, refl, arith, ◌∙◌, sym, ap}
 use Rattle.std.specs.List.{prefix_len}
 use Rattle.std.specs.Option.{option_map, option_map_or, option_or}
 use Rattle.markdown_raw_html.specs.HtmlTag.{TagPart, all, both, either, one, optional}

@@ -4,6 +4,7 @@ use Rattle.std.proofs.Common.{Some, Ok, Err}
 use Rattle.std.proofs.lemmas.List.{append-nil}
 use Rattle.std.specs.Iterator.{Yields}
 use Rattle.std.specs.Option.{option_map}
+use Rattle.std.proofs.lemmas.Bool.{false≢true}
 use Rattle.markdown_base.specs.Event.{EventView, event_view}
 use Rattle.markdown_base.specs.declared.event.Event.{Event}
 use Rattle.markdown_base.specs.declared.fault.Fault.{Fault}
@@ -20,14 +21,11 @@ pub reads_on : (all others : Option (List RecordEntry)) (v : RecordEntry) → al
 reads_on all None v is there = sym (ap (λ (o : Option (List RecordEntry)). is_some o) is) ∙ there
 reads_on all (Some vs) v is there = refl
 
-apart : false ≡ true → ⊥
-apart e = cc
-
 -- an entry that is an event is the first of the events
 pub event_first : (all others : Option (List RecordEntry)) (v : RecordEntry) (e : EventView)
     → all ≡ option_map (λ vs. v ∷ vs) others → is_some others ≡ true → event_of v ≡ Some e
     → events_among (list_or_none all) ≡ e ∷ events_among (list_or_none others)
-event_first all None v e is there found = absurd (apart there)
+event_first all None v e is there found = absurd (false≢true there)
 event_first all (Some vs) v e is there found = rw (is, found) refl
 
 -- another entry is none of them

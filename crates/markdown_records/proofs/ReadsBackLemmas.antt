@@ -1,6 +1,6 @@
 -- Contents read back from the bytes of their sheet.
-use Rattle.std.proofs.Common.{◌≡◌, ◌≤◌, ◌<◌, ◌^◌, ◌++◌, ◌∙◌, ◌+◌, ◌*◌, ◌-◌, ℕ, true, List, sym, refl, length}
-use Rattle.std.proofs.Common.{Some, le-leb, eq-eqb, arith, length-append, IsUtf8}
+use Rattle.std.proofs.Common.{◌≡◌, ◌≤◌, ◌<◌, ◌^◌, ◌++◌, ◌∙◌, ◌+◌, ◌*◌, ◌-◌, ℕ, true, List, sym, refl, length, Some}
+use Rattle.std.proofs.Common.{le-leb, eq-eqb, arith, length-append, IsUtf8}
 use Rattle.std.specs.List.{flat_map}
 use Rattle.std.proofs.lemmas.Bool.{and_from}
 use Rattle.std.proofs.lemmas.Nat.{from_le_bytes-to_le_bytes_4}
@@ -16,10 +16,11 @@ use Rattle.markdown_records.specs.RecordView.{header_bytes, number_at, record_si
 use Rattle.markdown_records.proofs.BytesReadBackLemmas.{length_records, records_read_back}
 use Rattle.markdown_records.proofs.EntriesReadBackLemmas.{definition_back, entry_back}
 use Rattle.markdown_records.proofs.GroupsReadBackLemmas.{all_groups, said_back}
-use Rattle.markdown_records.proofs.SheetsReadBackLemmas.{count_written, drafts_after, fit_count, fit_short}
-use Rattle.markdown_records.proofs.SheetsReadBackLemmas.{length_records_of, pool_written, pooled_by, records_after}
-use Rattle.markdown_records.proofs.SheetsReadBackLemmas.{records_of, records_written}
+use Rattle.markdown_records.proofs.SheetsReadBackLemmas.{count_written, fit_count, fit_short, length_records_of}
+use Rattle.markdown_records.proofs.SheetsReadBackLemmas.{pool_written, pooled_by, records_after, records_of}
+use Rattle.markdown_records.proofs.SheetsReadBackLemmas.{records_written}
 use Rattle.markdown_records.proofs.TextsReadBackLemmas.{AllRead, all_read, pooled_utf8, read_first, read_second}
+use Rattle.markdown_records.proofs.WritesLemmas.{then_both}
 
 -- a sheet whose records are as long as their count says, and whose numbers have 32 bits
 pub record IsWhole (source : List ℕ) (entries : ℕ) (sheet : Sheet) : Type 0 where
@@ -106,7 +107,7 @@ contents_back source pool c reads =
 -- the sheet of contents is that of all their drafts
 one_sheet : (source : List ℕ) (c : Contents) → whole_sheet source c ≡ then_drafts source blank (drafts_of c)
 one_sheet source c =
-    sym (drafts_after source blank (flat_map entry_drafts c.entries) (flat_map definition_drafts c.definitions))
+    sym (then_both source blank (flat_map entry_drafts c.entries) (flat_map definition_drafts c.definitions))
 
 sheet_whole : (source : List ℕ) (c : Contents) → IsRecordable source c
     → IsWhole source (entries_sheet source c).count (then_drafts source blank (drafts_of c))

@@ -1,7 +1,7 @@
 -- What the groups of bytes say, one after another.
 use Rattle.std.proofs.Common.{◌≡◌, ℕ, suc, arith, true, false, ◌==◌, if◌then◌else◌, List, [], ◌∷◌, length, refl, sym}
 use Rattle.std.proofs.Common.{ap, ◌∙◌, inl, inr, ⊎_elim, Option, None, Some, is_some}
-use Rattle.std.proofs.lemmas.Bool.{ne_eqb}
+use Rattle.std.proofs.lemmas.Bool.{false≢true, ne_eqb}
 use Rattle.std.specs.Option.{option_map}
 use Rattle.markdown_records.specs.Decoded as whole
 use Rattle.markdown_records.specs.Decoded.{each_of, grouped, said_by, then_option}
@@ -12,9 +12,6 @@ use Rattle.markdown_records.specs.ReadResult.{IsNotRead}
 use Rattle.markdown_records.specs.SaidBy.{contents_or_none, said_contents, said_definitions, said_entries}
 use Rattle.markdown_records.specs.declared.fault.RecordFault.{RecordFault}
 use Rattle.markdown_records.specs.declared.groups.Group.{Group}
-
-apart : false ≡ true → ⊥
-apart e = cc
 
 -- nothing is there
 pub none_there : {A : Type 0} (o : Option A) → is_some o ≡ false → o ≡ None
@@ -37,7 +34,7 @@ module _ {A : Type 0} (source pool : List ℕ) (read : whole.Group → Option A)
       first : (g : List RecordView × List whole.Group)
           → is_some (if length g.0 == 0 then each_of read g.1 else None) ≡ true → g.0 ≡ []
       first ([], groups) e = refl
-      first (r ∷ rs, groups) e = absurd (apart (rw (ne_eqb (suc (length rs)) 0 (omega arith)) at e))
+      first (r ∷ rs, groups) e = absurd (false≢true (rw (ne_eqb (suc (length rs)) 0 (omega arith)) at e))
 
   pub said_not_whole : (bytes : List ℕ) → (length (grouped (records_in bytes)).0 == 0) ≡ false
       → said_by source pool read (records_in bytes) ≡ None
@@ -97,7 +94,7 @@ module _ {A : Type 0} (source pool : List ℕ) (read : whole.Group → Option A)
     where
       by_value : (o : Option A) → read (group_view g) ≡ o → FirstSaid bytes rest g
       by_value None is =
-          absurd (apart (sym (is_none_there _ (said_wrong (said_whole bytes there) first is)) ∙ there))
+          absurd (false≢true (sym (is_none_there _ (said_wrong (said_whole bytes there) first is)) ∙ there))
       by_value (Some v) is = record {
         first = v;
         is = is;

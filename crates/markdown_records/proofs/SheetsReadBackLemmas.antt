@@ -1,6 +1,6 @@
 -- What drafts leave on a sheet.
-use Rattle.std.proofs.Common.{◌≡◌, ◌<◌, ◌^◌, ◌++◌, ◌∙◌, ◌∷◌, ◌+◌, ℕ, List, [], ap, sym, refl, length, arith}
-use Rattle.std.proofs.Common.{append-nil, append_assoc}
+use Rattle.std.proofs.Common.{◌≡◌, ◌<◌, ◌^◌, ◌++◌, ◌∙◌, ◌∷◌, ◌+◌, ℕ, List, [], ap, sym, refl, length, arith, append-nil}
+use Rattle.std.proofs.Common.{append_assoc}
 use Rattle.std.specs.List.{flat_map}
 use Rattle.markdown_records.specs.Drafts.{DraftView}
 use Rattle.markdown_records.specs.Encoded.{FitDrafts, Sheet, placed, pooled_bytes, then_draft, then_drafts}
@@ -40,12 +40,6 @@ pub length_records_of : (source : List ℕ) (sheet : Sheet) (ds : List DraftView
     → length (records_of source sheet ds) ≡ length ds
 length_records_of source sheet [] = refl
 length_records_of source sheet (d ∷ ds) = omega (arith, length_records_of source (then_draft source sheet d) ds)
-
--- drafts after others
-pub drafts_after : (source : List ℕ) (sheet : Sheet) (first second : List DraftView)
-    → then_drafts source sheet (first ++ second) ≡ then_drafts source (then_drafts source sheet first) second
-drafts_after source sheet [] second = refl
-drafts_after source sheet (d ∷ first) second = drafts_after source (then_draft source sheet d) first second
 
 pub records_after : (source : List ℕ) (sheet : Sheet) (first second : List DraftView)
     → records_of source sheet (first ++ second)

@@ -4,9 +4,8 @@ use Rattle.std.proofs.Common.{Option, None, Some}
 use Rattle.std.specs.Option.{option_map}
 use Rattle.std.proofs.lemmas.List.{append-nil, map-append}
 use Rattle.markdown_base.specs.CowText.{text_of}
-use Rattle.markdown_base.specs.Event.{attribute_view}
+use Rattle.markdown_base.specs.Event.{attribute_view, HeadingView}
 use Rattle.markdown_base.specs.declared.cow_str.CowStr.{CowStr}
-use Rattle.markdown_base.specs.Event.{HeadingView}
 use Rattle.markdown_records.specs.Decoded.{each_of, text_in, with_part, with_parts, with_value}
 use Rattle.markdown_records.specs.ReadResult.{IsNotRead}
 use Rattle.markdown_records.specs.RecordView.{RecordView}

@@ -23,8 +23,7 @@ use Rattle.markdown_out.specs.HtmlCorrect.{GoesTooDeep, IsRendered, StopsAtError
 use Rattle.markdown_out.specs.LookBacks.{IsTooDeep}
 use Rattle.markdown_render.specs.ParserHtml.{IsHtmlOfAll, IsHtmlOfFirst}
 use Rattle.markdown_render.specs.HtmlOfText.{IsTextTooDeep, html_of_text, views_of}
-use Rattle.markdown_render.specs.RenderingFor.{AreEventsFor, AreFirstEventsFor}
-use Rattle.markdown_render.specs.RenderingFor.{IsHtmlFor, IsTooDeepFor}
+use Rattle.markdown_render.specs.RenderingFor.{AreEventsFor, AreFirstEventsFor, IsHtmlFor, IsTooDeepFor}
 use Rattle.markdown_render.specs.declared.run.Failure.TheVariants as failure
 
 -- events of a reading are compared by what is seen of them

@@ -12,19 +12,14 @@ use Rattle.markdown_base.specs.Forest.{Forest, nil, node, roots}
 use Rattle.markdown_base.specs.declared.item.Item.{Item}
 use Rattle.markdown_base.specs.declared.item.ItemBody.{ItemBody}
 use Rattle.markdown_base.specs.declared.item.ItemBody.TheVariants as body
-use Rattle.markdown_brackets.specs.BracketDecision.{BracketContext, Wikilink}
-use Rattle.markdown_brackets.specs.BracketDecision.{found, past_second}
-use Rattle.markdown_brackets.specs.BracketDecision.{if_some, shown_children, text_from, wikilink_by}
-use Rattle.markdown_brackets.specs.BracketDecision.{wikilink_in}
-use Rattle.markdown_brackets.specs.LeftList.{Entry, OpenerState, Split}
-use Rattle.markdown_brackets.specs.LeftList.{done, inside, nearest}
-use Rattle.markdown_brackets.specs.LeftList.{trees_onto, waits}
-use Rattle.markdown_brackets.specs.Wikilink.{Shows, WikilinkBody, has_pothole, shows_from, shows_name}
-use Rattle.markdown_brackets.specs.Wikilink.{shows_nothing}
+use Rattle.markdown_brackets.specs.BracketDecision.{BracketContext, Wikilink, found, past_second, if_some}
+use Rattle.markdown_brackets.specs.BracketDecision.{shown_children, text_from, wikilink_by, wikilink_in}
+use Rattle.markdown_brackets.specs.LeftList.{Entry, OpenerState, Split, done, inside, nearest, trees_onto, waits}
+use Rattle.markdown_brackets.specs.Wikilink.{Shows, WikilinkBody, has_pothole, shows_from, shows_name, shows_nothing}
 use Rattle.markdown_brackets.proofs.LeftListLemmas.{onto_append, split_at}
-use Rattle.markdown_document.specs.ChainRest.{as_item, begun_at, cut_shape, end_of, joined_chains, open_body, past}
-use Rattle.markdown_document.specs.ChainRest.{next_starts_at, past_byte, start_of}
-use Rattle.markdown_document.specs.Document.{Shape, TreeNode, is_unresolved, leaf}
+use Rattle.markdown_document.specs.ChainRest.{as_item, begun_at, end_of, joined_chains, open_body, past, next_starts_at}
+use Rattle.markdown_document.specs.ChainRest.{past_byte, start_of}
+use Rattle.markdown_document.specs.Document.{TreeNode, is_unresolved}
 use Rattle.markdown_document.specs.EnclosingBlocks.{EnclosingBlocks}
 use Rattle.markdown_document.specs.Setting.{Setting}
 use Rattle.markdown_spans.specs.AfterLess.{Markup, address_at, autolink, declared_end, html_at, html_markup, markup_at}
@@ -38,17 +33,12 @@ use Rattle.markdown_raw_html.specs.TagText.{text_in}
 use Rattle.markdown_spans.specs.Autolink.{closed_uri, uri_autolink}
 use Rattle.markdown_spans.specs.Closers.{Dollar, MathClose, code_close, code_closer, dollar_next, first_dollar}
 use Rattle.markdown_spans.specs.Closers.{closing_count, inline_close, is_code_of, is_dollar, is_dollar_of, math_close}
-use Rattle.markdown_spans.specs.Closers.{can_close, can_open, context_of, display_close}
-use Rattle.markdown_spans.specs.Closers.{math_close_from, math_closed_by}
-use Rattle.markdown_spans.specs.Finds.{Find, SpanText, code_found, code_span, code_trees, end_of_find, find}
-use Rattle.markdown_spans.specs.Finds.{find_by, is_escaped}
-use Rattle.markdown_spans.specs.Finds.{markup, markup_found, math_found, math_span, nothing, prefix_below}
+use Rattle.markdown_spans.specs.Closers.{can_close, can_open, context_of, display_close, math_close_from}
+use Rattle.markdown_spans.specs.Closers.{math_closed_by}
+use Rattle.markdown_spans.specs.Finds.{Find, SpanText, code_found, code_span, code_trees, end_of_find, find, find_by}
+use Rattle.markdown_spans.specs.Finds.{is_escaped, markup, markup_found, math_found, math_span, nothing, prefix_below}
 use Rattle.markdown_spans.specs.Finds.{trees_for}
-
--- cutting opens nothing
-cut_open : (n : ℕ) (shape : Shape) → is_unresolved (cut_shape n shape) ≡ is_unresolved shape
-cut_open n (leaf e origins) = refl
-cut_open n other = refl
+use Rattle.markdown_spans.proofs.FindsLemmas.{cut_open}
 
 -- raw HTML and an autolink end later
 abbrev TagLater : ℕ → Option (ℕ × Option (List ℕ)) → Type 0

@@ -1,8 +1,9 @@
 -- What pass one asks is what brackets ask of the chain; and in a chain of a well-formed block result in which an item
 -- is open, all items are inline, so they are in order.
-use Rattle.std.proofs.Common.{◌≡◌, ℕ, Bool, true, false, ◌&&◌, ◌||◌, List, ◌≤◌, refl}
+use Rattle.std.proofs.Common.{◌≡◌, ℕ, true, false, List, ◌≤◌, refl}
 use Rattle.std.specs.Prelude.{IfSome, IsTrue, slice_range}
 use Rattle.std.specs.List.{list_all}
+use Rattle.std.proofs.lemmas.Bool.{or_right, and_parts}
 use Rattle.markdown_base.specs.BlockTree.{Numbered, tree_of}
 use Rattle.markdown_base.specs.Forest.{Forest, nil, node, relabelled, first_root, roots}
 use Rattle.markdown_base.specs.Item.{is_inline, is_open}
@@ -58,14 +59,6 @@ module _ {A : Type 0} (s : Setting) (notes : Notes A) (above : EnclosingBlocks) 
       end_apart (bracket_context s above)
       (read_other s notes above) other_asks_nothing prefix_holds_none chain state stand
 
-both : (a b : Bool) → IsTrue (a && b) → IsTrue a × IsTrue b
-both true b h = (refl, h)
-both false b h = absurd (cc h)
-
-or_true : (a b : Bool) → IsTrue b → IsTrue (a || b)
-or_true true b h = refl
-or_true false b h = h
-
 -- the markup of an item is that of its node
 markup_seen : (tables : Tables) (source bytes : List ℕ) (b : ItemBody) → StandsOverMarkup bytes b
     → StandsOverMarkup bytes (open_body (shape_of tables source b))
@@ -83,13 +76,13 @@ module _ (source : List ℕ) (tables : Tables) (counts : PartCounts) where
       → IfSome (first_root (relabelled seen after)) (λ b. end_of (seen a) ≤ start_of b)
   before_next a nil h inline all = tt
   before_next a (node b below after) h inline all =
-      (h inline (both (is_inline b.item.body) (list_all (λ n. is_inline n.item.body) (roots after)) all).0).ends
+      (h inline (and_parts (is_inline b.item.body) (list_all (λ n. is_inline n.item.body) (roots after)) all).0).ends
 
   in_line : (f : Forest Numbered) → AllKeepRules source counts f → IsTrue (all_inline f)
       → StandInLine source (relabelled seen f)
   in_line nil h all = tt
   in_line (node a below after) h all =
-      let inline = both (is_inline a.item.body) (list_all (λ n. is_inline n.item.body) (roots after)) all in
+      let inline = and_parts (is_inline a.item.body) (list_all (λ n. is_inline n.item.body) (roots after)) all in
       let lies = h.0.ranges_lie_in in
       let bytes : List ℕ = slice_range source a.item.start a.item.end in (
         record {
@@ -107,11 +100,11 @@ module _ (source : List ℕ) (tables : Tables) (counts : PartCounts) where
   chains_in_line (node a below after) h kept = (
     (λ opens. in_line (node a below after) h (kept (open_here opens))),
     chains_in_line below h.1 h.0.chains_are_kept.inline_only,
-    chains_in_line after h.2 (λ opens. all_later (kept (or_true (is_open a.item.body) (has_open after) opens))),
+    chains_in_line after h.2 (λ opens. all_later (kept (or_right (is_open a.item.body) (has_open after) opens))),
   )
     where
       all_later : IsTrue (all_inline (node a below after)) → IsTrue (all_inline after)
-      all_later all = (both (is_inline a.item.body) (list_all (λ n. is_inline n.item.body) (roots after)) all).1
+      all_later all = (and_parts (is_inline a.item.body) (list_all (λ n. is_inline n.item.body) (roots after)) all).1
 
       open_here : is_unresolved (seen a).part.shape ≡ true → IsTrue (has_open (node a below after))
       open_here opens =

@@ -4,8 +4,7 @@ use Rattle.std.proofs.Common.{◌≡◌, ℕ, List, Option, Some, None, refl, sy
 use Rattle.markdown_base.specs.declared.item.Item.{Item}
 use Rattle.markdown_base.specs.declared.node.Node.{Node}
 use Rattle.markdown_brackets.specs.BracketDecision.{BracketContext, Becomes, Closing, Decision, Written, Progress}
-use Rattle.markdown_brackets.specs.BracketDecision.{carried_out}
-use Rattle.markdown_brackets.specs.BracketDecision.{decided, found, inline_link, left_for_one, second_end}
+use Rattle.markdown_brackets.specs.BracketDecision.{carried_out, decided, found, inline_link, left_for_one, second_end}
 use Rattle.markdown_brackets.specs.LeftList.{Entry, bracket_taken, opens_bracket, opens_wikilink, without_bracket}
 use Rattle.markdown_brackets.specs.LeftList.{without_wikilink}
 use Rattle.markdown_brackets.proofs.ClosingBracketLemmas.{Stays, all_stays}

@@ -30,8 +30,7 @@ use Rattle.markdown_brackets.specs.LeftList.{trees_onto, without_bracket, withou
 use Rattle.markdown_brackets.specs.LinkTail.{LinkTail, link_tail}
 use Rattle.markdown_brackets.specs.Lookup.{answered, asked, defined_or_asked, finds_nothing, look_up, unknown}
 use Rattle.markdown_brackets.specs.Reference.{FoundLabel, collapsed, form_at, form_by_label, is_closing_bracket}
-use Rattle.markdown_brackets.specs.Reference.{is_opener}
-use Rattle.markdown_brackets.specs.Reference.{bracket_label, reference, shortcut, stands_at}
+use Rattle.markdown_brackets.specs.Reference.{is_opener, bracket_label, reference, shortcut, stands_at}
 use Rattle.markdown_brackets.specs.declared.footnote.FootnoteStyle.{FootnoteStyle}
 use Rattle.markdown_brackets.proofs.OpenerHeldLemmas.{trees_stay}
 use Rattle.markdown_document.specs.ChainRest.{as_item, end_of, open_body, start_of}

@@ -5,6 +5,7 @@ use Rattle.std.proofs.Common.{refl, sym, ap, ◌∙◌, arith, subst}
 use Rattle.std.specs.Prelude.{IfSome, if◌then◌else◌, nat_le, ⊤}
 use Rattle.std.specs.Option.{option_map}
 use Rattle.std.proofs.lemmas.List.{length-map}
+use Rattle.std.proofs.lemmas.Bool.{le-leb}
 use Rattle.markdown_base.specs.Arena.{child_of, sibling_of}
 use Rattle.markdown_base.specs.ArenaForest.{links_of, Spells, forest_at}
 use Rattle.markdown_base.specs.BlockTree.{Numbered, numbered, item_at}
@@ -20,7 +21,6 @@ use Rattle.markdown_document.specs.ResolverStates.{items_from}
 use Rattle.markdown_document.specs.Tables.{Tables}
 use Rattle.markdown_spans.specs.ChainInArena.{LeadsThrough}
 use Rattle.markdown_spans.proofs.LearnedElsewhereLemmas.{one_chain}
-use Rattle.markdown_brackets.proofs.OpenerLemmas.{le_true}
 use Rattle.markdown_resolver.specs.Chains.{CanResolve}
 use Rattle.markdown_resolver.specs.Kept.{IsQuietBelow}
 use Rattle.markdown_resolver.specs.Rewritten.{first_past, numbered_past_byte, begun_item}
@@ -158,13 +158,13 @@ end_before_more nodes i j (x ∷ xs) le h = (omega (arith, h.0), end_before_more
 passed_over : (nodes : List (Node Item)) (i : ℕ) (before after : List ℕ) → EndBefore nodes i before
     → first_past nodes i (before ++ after) ≡ first_past nodes i after
 passed_over nodes i [] after h = refl
-passed_over nodes i (x ∷ before) after h = rw (le_true (item_at nodes x).end i h.0)
+passed_over nodes i (x ∷ before) after h = rw (le-leb (item_at nodes x).end i h.0)
     (passed_over nodes i before after h.1)
 
 left_over : (nodes : List (Node Item)) (i : ℕ) (before after : List ℕ) → EndBefore nodes i before
     → numbered_past_byte i (map (numbered nodes) (before ++ after)) ≡ numbered_past_byte i (map (numbered nodes) after)
 left_over nodes i [] after h = refl
-left_over nodes i (x ∷ before) after h = rw (le_true (item_at nodes x).end i h.0) (left_over nodes i before after h.1)
+left_over nodes i (x ∷ before) after h = rw (le-leb (item_at nodes x).end i h.0) (left_over nodes i before after h.1)
 
 -- the first that ends past a byte offset that no item contains starts there or later
 pub starts_past : (nodes : List (Node Item)) (e j next : ℕ) (xs : List ℕ) → e ≤ j → InOrder nodes j xs

@@ -102,7 +102,7 @@ first_placed source tables nodes i n (node ix below after) p e = by (nat_le (ite
         (subst (IsPlaced source tables nodes) same p.0, subst (λ (m : ℕ). i < (item_at nodes m).end) same past)
 
 -- what a node shows as a `]` is one
-shows_closer : (tables : Tables) (bytes : List ℕ) (b : ItemBody)
+pub shows_closer : (tables : Tables) (bytes : List ℕ) (b : ItemBody)
     → is_closing_bracket (open_body (shape_of tables bytes b)) ≡ is_closing_bracket b
 shows_closer tables bytes body.Paragraph = refl
 shows_closer tables bytes (body.HardBreak true) = refl

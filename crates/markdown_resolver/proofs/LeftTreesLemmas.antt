@@ -6,8 +6,7 @@ use Rattle.markdown_brackets.specs.ChainHeld.{numbers_of, times_of}
 use Rattle.markdown_brackets.specs.Decides.{EachOpener}
 use Rattle.markdown_brackets.specs.Finish.{AreNumbersAfter, AreRising}
 use Rattle.markdown_brackets.specs.LeftList.{Flag, live, disabled, gone, OpenerState, Entry, done, waits, all_done}
-use Rattle.markdown_brackets.specs.LeftList.{on_states}
-use Rattle.markdown_brackets.specs.LeftList.{second_folded, trees_onto}
+use Rattle.markdown_brackets.specs.LeftList.{on_states, second_folded, trees_onto}
 use Rattle.markdown_brackets.specs.HeldOpeners.{brackets_of, wikilinks_of, held_as}
 use Rattle.markdown_brackets.specs.Openers.{Waiting}
 use Rattle.markdown_brackets.proofs.OpenerHeldLemmas.{onto_joined}

@@ -1,12 +1,12 @@
 -- What is found at a `<` ends with `>`, and so between two characters; no open item has bytes both before and after its
 -- end.
 use Rattle.markdown_base.specs.declared.item.ItemBody.TheVariants as body
-use Rattle.std.proofs.Common.{◌≡◌, ℕ, zero, suc, ◌+◌, ◌-◌, ◌<◌, ◌≤◌, Bool, true, false, ◌==◌, ◌&&◌, ◌⊎◌, inl, inr, List}
-use Rattle.std.proofs.Common.{[], ◌∷◌, Option, Some, None, length, take, drop, get_or, refl, sym, ap, ◌∙◌, subst, arith}
+use Rattle.std.proofs.Common.{◌≡◌, ℕ, suc, ◌+◌, ◌-◌, ◌<◌, ◌≤◌, Bool, true, false, ◌==◌, ◌&&◌, ◌⊎◌, inl, inr, List, ◌∷◌}
+use Rattle.std.proofs.Common.{Option, Some, None, length, take, drop, get_or, refl, sym, ap, ◌∙◌, subst, arith}
 use Rattle.std.specs.Prelude.{IfSome, if◌then◌else◌, slice_index}
-use Rattle.std.specs.Option.{option_map, option_map_or, option_or}
+use Rattle.std.specs.Option.{option_map, option_or}
 use Rattle.std.proofs.lemmas.Bool.{cases_lt, eqb-true}
-use Rattle.std.proofs.lemmas.List.{drop-drop, drop_all, get_or-drop, get_or_past, length-drop}
+use Rattle.std.proofs.lemmas.List.{drop-drop, get_or-drop, get_or_past, length-drop}
 use Rattle.markdown_base.specs.Arena.{sibling_of}
 use Rattle.markdown_base.specs.ArenaForest.{links_of, forest_at}
 use Rattle.markdown_base.specs.BlockTree.{item_at}
@@ -28,15 +28,13 @@ use Rattle.markdown_spans.proofs.AfterLessLemmas.{address_closed}
 use Rattle.markdown_spans.proofs.SliceLemmas.{slice_between}
 use Rattle.markdown_document.proofs.OriginLemmas.{slice_wider}
 use Rattle.markdown_raw_html.specs.HtmlTag.{html_tag}
-use Rattle.markdown_raw_html.specs.LinePrefix.{prefix_after}
 use Rattle.markdown_raw_html.specs.RawHtml.{cdata_section, comment, declaration, end_from, processing_instruction}
 use Rattle.markdown_raw_html.specs.TagSource.{tag_at, tag_lengths, tag_of}
-use Rattle.markdown_raw_html.specs.TagText.{source_after, source_after_byte, text_in}
+use Rattle.markdown_raw_html.specs.TagText.{source_after, text_in}
 use Rattle.markdown_raw_html.proofs.RawHtmlLemmas.{EndsWith, comment-ends, cdata_section-ends, declaration-ends}
 use Rattle.markdown_raw_html.proofs.RawHtmlLemmas.{processing_instruction-ends}
-use Rattle.markdown_raw_html.proofs.TagSourceLemmas.{Closes-html_tag}
-use Rattle.markdown_raw_html.proofs.TagTextLemmas.{source_after-more, source_after-nil, text_in-cons}
-use Rattle.markdown_raw_html.proofs.TagTextLemmas.{text_in-source_after}
+use Rattle.markdown_raw_html.proofs.TagSourceLemmas.{IsEnd, IsEnd-source_after, angle_bracket, Closes-html_tag}
+use Rattle.markdown_raw_html.proofs.TagTextLemmas.{source_after-more, text_in-source_after}
 use Rattle.markdown_resolver.specs.Chains.{CanResolve}
 use Rattle.markdown_resolver.specs.Rewritten.{IsFoundAt}
 use Rattle.markdown_resolver.proofs.GoesOnLemmas.{first_placed, none_cut}
@@ -48,34 +46,6 @@ pub record EndsClosed (text : List ℕ) (start end : ℕ) : Type 0 where
   pub after : start < end
   pub within : end ≤ length text
   pub closed : get_or text (end - 1) 0 ≡ 62
-
--- what is left after some bytes of a text without prefixes is an end of the source
-IsEnd : List ℕ → List ℕ → Type 0
-IsEnd source left = (from : ℕ) × (left ≡ drop from source)
-
-is_end : (skipped : List ℕ → Option ℕ) (n : ℕ) (source : List ℕ) → IsEnd source (source_after skipped n source)
-unfolding IsEnd
-is_end skipped zero source = (0, refl)
-is_end skipped (suc n) [] = (0, refl)
-is_end skipped (suc n) (b ∷ source) = later (prefix_after skipped b source)
-    (is_end skipped n (source_after_byte skipped b source))
-  where
-    later : (o : Option ℕ) → IsEnd (option_map_or (λ n. drop n source) o [])
-        (source_after skipped n (option_map_or (λ n. drop n source) o []))
-        → IsEnd (b ∷ source) (source_after skipped n (option_map_or (λ n. drop n source) o []))
-    later None h = (
-      length (b ∷ source),
-      source_after-nil skipped n ∙ sym (drop_all (length (b ∷ source)) (b ∷ source) (omega arith)),
-    )
-    later (Some k) h = (suc (k + h.0), h.1 ∙ drop-drop h.0 k source)
-
--- where a text continues with `>`, so does its source
-closes_here : (skipped : List ℕ → Option ℕ) (source : List ℕ) → 1 ≤ length (text_in skipped source)
-    → get_or (text_in skipped source) 0 0 ≡ 62 → source ≡ 62 ∷ source_after skipped 1 source
-closes_here skipped [] some is = absurd (omega (arith, some))
-closes_here skipped (b ∷ source) some is =
-    let byte : b ≡ 62 = sym (ap (λ bytes. get_or bytes 0 0) (text_in-cons skipped b source)) ∙ is in
-    rw byte refl
 
 -- a tag ends with `>` in its source
 tag_closed : (skipped : List ℕ → Option ℕ) (text : List ℕ) (place n : ℕ) → place ≤ length text
@@ -99,8 +69,8 @@ tag_closed skipped text place n within is =
     let after : source_after skipped 1 mid ≡ rest = source_after-more skipped (n - 1) 1 source
     ∙ ap (λ k. source_after skipped k source) sum
     in
-    let split : mid ≡ 62 ∷ rest = closes_here skipped mid some last ∙ ap (λ bytes. 62 ∷ bytes) after in
-    let end = is_end skipped (n - 1) source in
+    let split : mid ≡ 62 ∷ rest = angle_bracket skipped mid some last ∙ ap (λ bytes. 62 ∷ bytes) after in
+    let end = IsEnd-source_after skipped (n - 1) source in
     let at_end : drop (place + end.0) text ≡ 62 ∷ rest = sym (drop-drop end.0 place text) ∙ (sym end.1 ∙ split) in
     let longer : length text - (place + end.0)
     ≡ 1 + length rest = omega (arith, ap length at_end, length-drop (place + end.0) text) in

@@ -1,19 +1,19 @@
 -- Pairs nest in each chain of a well-formed block result: its trees lie one after the other, also after pass one, and
 -- nothing is below the characters of its runs.
-use Rattle.std.proofs.Common.{◌≡◌, ℕ, zero, suc, ◌-◌, ◌<◌, ◌≤◌, Bool, true, false, ◌&&◌, ◌||◌, List, Option, Some, None}
-use Rattle.std.proofs.Common.{refl, ap, ◌∙◌, subst, arith, length}
+use Rattle.std.proofs.Common.{◌≡◌, ℕ, zero, suc, ◌-◌, ◌<◌, ◌≤◌, true, List, Option, Some, None, refl, ap, ◌∙◌, subst}
+use Rattle.std.proofs.Common.{arith, length}
 use Rattle.std.specs.Prelude.{IfSome, IsTrue, ⊤, slice_index, slice_range}
 use Rattle.std.specs.Option.{option_map}
 use Rattle.std.specs.List.{list_all}
 use Rattle.std.proofs.lemmas.List.{length-replicate}
+use Rattle.std.proofs.lemmas.Bool.{or_right, and_parts}
 use Rattle.markdown_base.specs.BlockTree.{Numbered, tree_of}
 use Rattle.markdown_base.specs.Forest.{Forest, nil, node, first_root, relabelled, roots, Throughout}
 use Rattle.markdown_base.specs.Item.{BodyKind, body_kind, is_childless_kind, is_inline, is_inline_kind, is_open}
 use Rattle.markdown_base.specs.Item.{settled_inline, undecided_bracket, undecided_delimiter, undecided_span}
 use Rattle.markdown_base.specs.WellFormed.{AllKeepRules, InlineInOrder, IsWellFormed, PartCounts, RunCharacter}
-use Rattle.markdown_base.specs.WellFormed.{RunGoesOn, RunsAreWhole}
-use Rattle.markdown_base.specs.WellFormed.{StandsInRun, StandsOverMarkup, all_inline, counts_of}
-use Rattle.markdown_base.specs.WellFormed.{has_open, run_character}
+use Rattle.markdown_base.specs.WellFormed.{RunGoesOn, RunsAreWhole, StandsInRun, StandsOverMarkup, all_inline}
+use Rattle.markdown_base.specs.WellFormed.{counts_of, has_open, run_character}
 use Rattle.markdown_base.specs.declared.block_parts.BlockParts.{BlockParts}
 use Rattle.markdown_base.specs.declared.item.Item.{Item}
 use Rattle.markdown_base.specs.declared.item.ItemBody.{ItemBody}
@@ -178,14 +178,6 @@ inline_childless undecided_delimiter e = refl
 inline_childless settled_inline e = refl
 inline_childless other e = cc e
 
-pub both : (a b : Bool) → IsTrue (a && b) → IsTrue a × IsTrue b
-both true b h = (refl, h)
-both false b h = absurd (cc h)
-
-or_true : (a b : Bool) → IsTrue b → IsTrue (a || b)
-or_true true b h = refl
-or_true false b h = h
-
 module _ (source : List ℕ) (tables : Tables) (counts : PartCounts) where
   abbrev seen : Numbered → Plain
   seen a = tree_node_of source tables a.item
@@ -195,7 +187,7 @@ module _ (source : List ℕ) (tables : Tables) (counts : PartCounts) where
       → IfSome (first_root f) (λ a. i ≤ a.item.start) → LieApart i (relabelled seen f)
   inline_apart i nil h all from = tt
   inline_apart i (node a below after) h all from =
-      let inline = both (is_inline a.item.body) (list_all (λ n. is_inline n.item.body) (roots after)) all in
+      let inline = and_parts (is_inline a.item.body) (list_all (λ n. is_inline n.item.body) (roots after)) all in
       let rules = h.0 in
       let none : below ≡ nil = rules.chains_are_kept.childless (inline_childless (body_kind a.item.body) inline.0) in
       let bytes = slice_range source a.item.start a.item.end in
@@ -220,7 +212,8 @@ module _ (source : List ℕ) (tables : Tables) (counts : PartCounts) where
           → InlineInOrder a (first_root after) → IfSome (first_root after) (λ b. a.item.end ≤ b.item.start)
       next_apart nil here all order = tt
       next_apart (node b inner rest) here all order =
-          (order here (both (is_inline b.item.body) (list_all (λ n. is_inline n.item.body) (roots rest)) all).0).ends
+          (order here
+          (and_parts (is_inline b.item.body) (list_all (λ n. is_inline n.item.body) (roots rest)) all).0).ends
 
   -- what holds of chains of inline items holds of each chain with an open item
   pub chains_of : (P : Forest Plain → Type 0)
@@ -231,11 +224,11 @@ module _ (source : List ℕ) (tables : Tables) (counts : PartCounts) where
   chains_of P holds (node a below after) h kept = (
     (λ opens. holds (node a below after) h (kept (open_here opens))),
     chains_of P holds below h.1 h.0.chains_are_kept.inline_only,
-    chains_of P holds after h.2 (λ opens. all_later (kept (or_true (is_open a.item.body) (has_open after) opens))),
+    chains_of P holds after h.2 (λ opens. all_later (kept (or_right (is_open a.item.body) (has_open after) opens))),
   )
     where
       all_later : IsTrue (all_inline (node a below after)) → IsTrue (all_inline after)
-      all_later all = (both (is_inline a.item.body) (list_all (λ n. is_inline n.item.body) (roots after)) all).1
+      all_later all = (and_parts (is_inline a.item.body) (list_all (λ n. is_inline n.item.body) (roots after)) all).1
 
       open_here : is_unresolved (seen a).part.shape ≡ true → IsTrue (has_open (node a below after))
       open_here opens =

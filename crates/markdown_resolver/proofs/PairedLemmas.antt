@@ -14,6 +14,7 @@ use Rattle.markdown_base.specs.declared.item.Item.{Item}
 use Rattle.markdown_base.specs.declared.item.ItemBody.{ItemBody}
 use Rattle.markdown_base.specs.declared.item.ItemBody.TheVariants as body
 use Rattle.markdown_base.specs.declared.node.Node.{Node}
+use Rattle.markdown_base.proofs.ArenaRulesLemmas.{first_spelled}
 use Rattle.markdown_document.specs.EnclosingBlocks.{EnclosingBlocks}
 use Rattle.markdown_document.specs.Document.{no_notes, Plain, Shape, unresolved, is_unresolved, shape_of}
 use Rattle.markdown_document.specs.ItemRules.{ComesBefore}
@@ -59,12 +60,6 @@ all_wait source tables nodes (node ix below after) q = (
   all_wait source tables nodes after q.3,
 )
 
--- the item that a link leads to is the first of its forest
-first_is : (nodes : List (Node Item)) (l : Option ℕ) (f : Forest ℕ) → Spells (links_of nodes) l f
-    → option_map (numbered nodes) l ≡ first_root (relabelled (numbered nodes) f)
-first_is nodes l nil s = rw s refl
-first_is nodes l (node ix below after) s = rw s.0 refl
-
 nothing_below : (nodes : List (Node Item)) (l : Option ℕ) (f : Forest ℕ) → Spells (links_of nodes) l f → l ≡ None
     → relabelled (numbered nodes) f ≡ nil
 nothing_below nodes l nil s e = refl
@@ -107,7 +102,7 @@ all_whole source tables nodes l (node ix below after) s p =
     let keeps = p.0.keeps in (
       whole_if source (numbered nodes ix) (relabelled (numbered nodes) below) (relabelled (numbered nodes) after)
           (option_map (numbered nodes) (sibling_of nodes ix)) (run_character (item_at nodes ix).body)
-          (first_is nodes (sibling_of nodes ix) after s.3) keeps.runs_are_whole
+          (first_spelled nodes (sibling_of nodes ix) after s.3) keeps.runs_are_whole
           (λ c e. nothing_below nodes (child_of nodes ix) below s.2
           (keeps.childless (run_open (item_at nodes ix).body c e))),
       all_whole source tables nodes (sibling_of nodes ix) after s.3 p.2,

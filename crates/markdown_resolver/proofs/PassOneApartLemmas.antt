@@ -14,9 +14,8 @@ use Rattle.markdown_base.specs.declared.tag.LinkType.TheVariants as kind
 use Rattle.markdown_brackets.specs.BracketDecision.{BracketContext, Closing, LinkReference, Progress, Wikilink, Written}
 use Rattle.markdown_brackets.specs.BracketDecision.{a_link, a_text, block_text, carried_out, closer_ends_at, decided}
 use Rattle.markdown_brackets.specs.BracketDecision.{form_of, found, inline_target, inline_title, left_for_one, lines}
-use Rattle.markdown_brackets.specs.BracketDecision.{looked_up, past_second, question_at}
-use Rattle.markdown_brackets.specs.BracketDecision.{second_end, start_of_first_past}
-use Rattle.markdown_brackets.specs.BracketDecision.{text_from, wikilink_in}
+use Rattle.markdown_brackets.specs.BracketDecision.{looked_up, past_second, question_at, second_end}
+use Rattle.markdown_brackets.specs.BracketDecision.{start_of_first_past, text_from, wikilink_in}
 use Rattle.markdown_brackets.specs.ClosingBracket.{closed, footnote_from, footnote_onto, linked, put, put_decided}
 use Rattle.markdown_brackets.specs.ClosingBracket.{wikilink_target}
 use Rattle.markdown_brackets.specs.LeftList.{Entry, Split, before_footnote, before_link, before_wikilink, bracket_taken}
@@ -34,9 +33,8 @@ use Rattle.markdown_document.specs.Setting.{ReferenceState, Setting}
 use Rattle.markdown_document.specs.Waiting.{is_quiet}
 use Rattle.markdown_spans.specs.Finds.{end_of_find, find, read_tree, read_unless, trees_for}
 use Rattle.markdown_resolver.specs.PassOne.{bracket_context, pass_one, put_passed, read_on, read_other}
-use Rattle.markdown_resolver.proofs.ApartLemmas.{Around, LieApart, around, find_fits, found_apart, one_apart}
-use Rattle.markdown_resolver.proofs.ApartLemmas.{onto, past_byte_apart}
-use Rattle.markdown_resolver.proofs.ApartLemmas.{past_second_apart, sooner, wikilink_apart}
+use Rattle.markdown_resolver.proofs.ApartLemmas.{Around, LieApart, around, find_fits, found_apart, one_apart, onto}
+use Rattle.markdown_resolver.proofs.ApartLemmas.{past_byte_apart, past_second_apart, sooner, wikilink_apart}
 use Rattle.markdown_resolver.proofs.TailEndLemmas.{tail_closes}
 use Rattle.markdown_resolver.proofs.WholeLemmas.{onto_done, same_change, same_link, same_marks, same_second}
 

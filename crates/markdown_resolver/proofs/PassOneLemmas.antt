@@ -5,6 +5,7 @@
 use Rattle.std.proofs.Common.{◌≡◌, ℕ, ◌+◌, ◌≤◌, Bool, true, false, not, List, [], ◌∷◌, Option, Some, None, refl, sym}
 use Rattle.std.proofs.Common.{ap, ◌∙◌, subst, nat_le, arith}
 use Rattle.std.specs.Prelude.{if◌then◌else◌}
+use Rattle.std.proofs.lemmas.Bool.{not-true}
 use Rattle.markdown_base.specs.Forest.{Forest, nil, node}
 use Rattle.markdown_base.specs.declared.item.ItemBody.{ItemBody}
 use Rattle.markdown_base.specs.declared.item.ItemBody.TheVariants as body
@@ -192,10 +193,6 @@ first_not_plain : (shape : Shape) → GivesFirst shape → not (is_plain shape) 
 first_not_plain plain h = absurd h
 first_not_plain other h = refl
 
-shows_more : (b : Bool) → not b ≡ true → b ≡ false
-shows_more true h = cc h
-shows_more false h = refl
-
 abbrev is_not_plain : Shape → Bool
 is_not_plain shape = not (is_plain shape)
 
@@ -220,7 +217,7 @@ module _ {A : Type 0} where
       (below after : Forest (TreeNode A))
       → is_plain a.part.shape ≡ false → P (node a below after)) → BeginsWith is_not_plain f → P f
   begun_by P nil holds h = absurd h
-  begun_by P (node a below after) holds h = holds a below after (shows_more (is_plain a.part.shape) h)
+  begun_by P (node a below after) holds h = holds a below after (not-true (is_plain a.part.shape) h)
 
   module _ (s : Setting) (notes : Notes A) (above : EnclosingBlocks) where
     quiet_tree : (n : ℕ) (a : TreeNode A) (below rest : Forest (TreeNode A)) → is_quiet a.part.shape ≡ true

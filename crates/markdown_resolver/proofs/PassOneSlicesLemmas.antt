@@ -1,7 +1,6 @@
 -- In pass one each tree keeps its slices in its own range, but for the first that a wikilink shows after its pipe.
 use Rattle.std.proofs.Common.{◌≡◌, ℕ, ◌+◌, ◌-◌, ◌<◌, ◌≤◌, Bool, true, false, ◌&&◌, ◌==◌, not, List, [], ◌∷◌, Option}
-use Rattle.std.proofs.Common.{Some, None}
-use Rattle.std.proofs.Common.{refl, sym, ap, subst, ◌∙◌, arith, nat_le, ⊎_elim, drop}
+use Rattle.std.proofs.Common.{Some, None, refl, sym, ap, subst, ◌∙◌, arith, nat_le, ⊎_elim, drop}
 use Rattle.std.specs.Prelude.{IfSome, if◌then◌else◌, unwrap_or, ⊤, ◌⊎◌, take, slice_range}
 use Rattle.std.specs.List.{AllByRecursion}
 use Rattle.std.specs.Option.{option_and_then, option_map, option_map_or}
@@ -15,9 +14,9 @@ use Rattle.markdown_base.specs.declared.tag.LinkType.{LinkType}
 use Rattle.markdown_base.specs.declared.tag.LinkType.TheVariants as kind
 use Rattle.markdown_brackets.specs.BracketDecision.{BracketContext, Closing, LinkReference, Progress, Wikilink, Written}
 use Rattle.markdown_brackets.specs.BracketDecision.{a_link, a_text, carried_out, decided, found, if_some, inline_target}
-use Rattle.markdown_brackets.specs.BracketDecision.{form_of, inline_title, left_for_one, looked_up}
-use Rattle.markdown_brackets.specs.BracketDecision.{past_second, question_at}
-use Rattle.markdown_brackets.specs.BracketDecision.{second_end, shown_children, text_from, wikilink_by, wikilink_in}
+use Rattle.markdown_brackets.specs.BracketDecision.{form_of, inline_title, left_for_one, looked_up, past_second}
+use Rattle.markdown_brackets.specs.BracketDecision.{question_at, second_end, shown_children, text_from, wikilink_by}
+use Rattle.markdown_brackets.specs.BracketDecision.{wikilink_in}
 use Rattle.markdown_brackets.specs.ClosingBracket.{closed, footnote_from, footnote_onto, linked, put, put_decided}
 use Rattle.markdown_brackets.specs.ClosingBracket.{wikilink_target}
 use Rattle.markdown_brackets.specs.LeftList.{Entry, OpenerState, Split, before_footnote, before_link, before_wikilink}
@@ -41,23 +40,21 @@ use Rattle.markdown_document.specs.Setting.{ReferenceState, Setting}
 use Rattle.markdown_document.specs.Waiting.{is_quiet}
 use Rattle.markdown_document.proofs.OriginLemmas.{slice_wider}
 use Rattle.markdown_spans.specs.AfterLess.{Markup, autolink, html_markup, markup_at}
-use Rattle.markdown_spans.specs.Closers.{Dollar, MathClose, can_close, can_open, context_of, display_close}
-use Rattle.markdown_spans.specs.Closers.{dollar_next, first_dollar, inline_close, is_dollar_of, math_close}
-use Rattle.markdown_spans.specs.Closers.{math_close_from, math_closed_by}
-use Rattle.markdown_spans.specs.Finds.{Find, SpanText, code_found, code_span, code_trees, find, find_by}
-use Rattle.markdown_spans.specs.Finds.{is_escaped, markup, markup_found, math_found, math_span}
-use Rattle.markdown_spans.specs.Finds.{math_text_start, nothing}
+use Rattle.markdown_spans.specs.Closers.{Dollar, MathClose, can_close, can_open, context_of, display_close, dollar_next}
+use Rattle.markdown_spans.specs.Closers.{first_dollar, inline_close, is_dollar_of, math_close, math_close_from}
+use Rattle.markdown_spans.specs.Closers.{math_closed_by}
+use Rattle.markdown_spans.specs.Finds.{Find, SpanText, code_found, code_span, code_trees, find, find_by, is_escaped}
+use Rattle.markdown_spans.specs.Finds.{markup, markup_found, math_found, math_span, math_text_start, nothing}
 use Rattle.markdown_spans.specs.Finds.{prefix_below, read_tree, read_unless, span_between, trees_for}
 use Rattle.markdown_spans.specs.CodeText.{replaced_past, span_text}
 use Rattle.markdown_spans.specs.declared.span_text.SpanKind.{SpanKind}
 use Rattle.markdown_spans.specs.declared.span_text.SpanKind.TheVariants.{Code, Math}
 use Rattle.markdown_spans.proofs.SliceLemmas.{sliced_wider}
 use Rattle.markdown_resolver.specs.PassOne.{bracket_context, pass_one, put_passed, read_on, read_other}
-use Rattle.markdown_resolver.specs.SlicesInPlace.{IsInPlace, LinkIsIn, SlicesInPlace, SpanIsIn}
-use Rattle.markdown_resolver.specs.SlicesInPlace.{has_pipe, shows_after_pipe}
-use Rattle.markdown_resolver.proofs.ApartLemmas.{Closing_among, LieApart, around, code_among, ends_later}
-use Rattle.markdown_resolver.proofs.ApartLemmas.{math_among, next_among}
-use Rattle.markdown_resolver.proofs.ApartLemmas.{onto}
+use Rattle.markdown_resolver.specs.SlicesInPlace.{IsInPlace, LinkIsIn, SlicesInPlace, SpanIsIn, has_pipe}
+use Rattle.markdown_resolver.specs.SlicesInPlace.{shows_after_pipe}
+use Rattle.markdown_resolver.proofs.ApartLemmas.{Closing_among, LieApart, around, code_among, ends_later, math_among}
+use Rattle.markdown_resolver.proofs.ApartLemmas.{next_among, onto}
 use Rattle.markdown_resolver.proofs.EndsWellLemmas.{IsNoSlice, looked_up_made}
 use Rattle.markdown_resolver.proofs.PassOneApartLemmas.{SoFar, closer_open, past_step, quiet_open, second_later}
 use Rattle.markdown_resolver.proofs.SlicedSpanLemmas.{AddressIn, markup_slice, name_slice_of, span_slice}

@@ -12,7 +12,7 @@ use Rattle.markdown_base.specs.Arena.{child_of, sibling_of}
 use Rattle.markdown_base.specs.ArenaForest.{Links, Spells, followed, forest_at, links_of}
 use Rattle.markdown_base.specs.ArenaRules.{next_at}
 use Rattle.markdown_base.specs.BlockTree.{Numbered, item_at}
-use Rattle.markdown_base.specs.Forest.{Forest, nil, node, Each, relabelled, roots}
+use Rattle.markdown_base.specs.Forest.{Forest, nil, node, relabelled, roots}
 use Rattle.markdown_base.specs.Item.{is_open}
 use Rattle.markdown_base.specs.declared.item.Item.{Item}
 use Rattle.markdown_base.specs.declared.item.ItemBody.{ItemBody}
@@ -20,6 +20,7 @@ use Rattle.markdown_base.specs.declared.node.Node.{Node}
 use Rattle.markdown_base.proofs.ArenaForestLemmas.{opens, forest_at-none}
 use Rattle.markdown_base.proofs.ArenaLemmas.{length-changed_at}
 use Rattle.markdown_base.specs.Event.{code}
+use Rattle.markdown_base.proofs.ForestLemmas.{Each-always}
 use Rattle.markdown_document.specs.Origins.{Origin, inlined, made, origin_at, sliced}
 use Rattle.markdown_document.specs.ChainRest.{begun_at, end_of, cut_shape, past_byte}
 use Rattle.markdown_document.specs.Document.{TreeNode, Plain, block_of, tree_node_of, shape_of, leaf, math}
@@ -293,15 +294,11 @@ pub record SpelledAt (nodes : List (Node Item)) (ix : ℕ) : Type 0 where
       (forest_at (links_of nodes) (sibling_of nodes ix))
   pub after : Spells (links_of nodes) (sibling_of nodes ix) (forest_at (links_of nodes) (sibling_of nodes ix))
 
-each_node : (f : Forest ℕ) → Each (λ n. ⊤) f
-each_node nil = tt
-each_node (node ix below after) = (tt, each_node below, each_node after)
-
 pub spelled_at : (nodes : List (Node Item)) (l : Option ℕ) (ix : ℕ) → l ≡ Some ix
     → Spells (links_of nodes) l (forest_at (links_of nodes) l) → SpelledAt nodes ix
 spelled_at nodes l ix e s =
     let o = opens (links_of nodes) (λ n. ⊤) ix
-    (record { spelled = rw e at s; each = each_node (forest_at (links_of nodes) (Some ix)) }) in
+    (record { spelled = rw e at s; each = Each-always (forest_at (links_of nodes) (Some ix)) }) in
     record { within = o.within; here = o.here; after = o.after.spelled }
 
 -- the first that ends past a byte is here, or further on

@@ -26,7 +26,7 @@ use Rattle.markdown_document.proofs.FoundLemmas.{found}
 use Rattle.markdown_document.proofs.FrameLemmas.{Stays, label-same}
 use Rattle.markdown_document.proofs.ItemRulesLemmas.{keeps-closed}
 use Rattle.markdown_document.proofs.PlaceLemmas.{times-past, slices-none}
-use Rattle.markdown_document.proofs.TablesLemmas.{same-apart, grown-longer, entries-longer}
+use Rattle.markdown_document.proofs.TablesLemmas.{same_once, same-apart, grown-longer, entries-longer}
 use Rattle.markdown_resolver.specs.Chains.{CanResolve}
 use Rattle.markdown_resolver.specs.Rewritten.{Standing, Rewrites, replaced, one_item, parent, IsFoundAt, IsRestPast}
 use Rattle.markdown_resolver.specs.Rewritten.{CanPut, CanPutParent, Puts}
@@ -162,12 +162,6 @@ found_puts {source} {ix} {item} {rest} {old} {mid} {tables} {t} grown finds puts
       below = λ new later m. none_below s h m finds.was_open (rw w.item_is puts.closed) w.child_is;
     }) (λ a below. refl)
 
-same_small : (n m : ℕ) → same n m ≤ 1
-same_small zero zero = omega arith
-same_small zero (suc m) = omega arith
-same_small (suc n) zero = omega arith
-same_small (suc n) (suc m) = same_small n m
-
 pub same_before : (n m : ℕ) → n < m → same n m ≡ 0
 same_before zero zero l = absurd (omega (arith, l))
 same_before zero (suc m) l = refl
@@ -203,7 +197,7 @@ leaf_below source ix inside old mid new tables t later next s h m b puts names w
     let item : item_at new k ≡ inside = at.item ∙ b.item_is in
     let spelled : Spells (links_of new) (Some k) (node k nil nil) = (refl, omega (arith, size, more), child, follows) in
     let here : forest_at (links_of new) (Some k) ≡ node k nil nil = found (links_of new) (Some k) (node k nil nil)
-    spelled (λ n. let x = same_small n k in omega arith) in
+    spelled (λ n. let x = same_once n k in omega arith) in
     let longer = grown-longer t later m.grown in
     let placed : IsPlaced source later new k = record {
       lies = rw item puts.lies;
@@ -221,7 +215,7 @@ leaf_below source ix inside old mid new tables t later next s h m b puts names w
     record {
       below = record {
         reaches = rw b.link (record { spelled = rw here spelled; each = rw here (placed, tt, tt) });
-        once = λ n. let x = same_small n k in rw (b.link, here) (omega arith);
+        once = λ n. let x = same_once n k in rw (b.link, here) (omega arith);
         of_chain = λ n l. let x = same_before n k l in rw (b.link, here) (omega arith);
         none_new = λ n l. let x = same-apart n k (omega (arith, size, l)) in rw (b.link, here) (omega arith);
         named = λ n. let z = names n in rw (b.link, here, item) (omega arith);

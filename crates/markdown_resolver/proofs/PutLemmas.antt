@@ -13,11 +13,11 @@ use Rattle.markdown_base.specs.Forest.{Forest, nil, node, roots}
 use Rattle.markdown_base.specs.Item.{is_open}
 use Rattle.markdown_base.specs.WellFormed.{RunCharacter, run_character, RunGoesOn, StandsInRun, RunsAreWhole}
 use Rattle.markdown_base.specs.declared.item.Item.{Item}
-use Rattle.markdown_base.specs.declared.item.ItemBody.{ItemBody}
 use Rattle.markdown_base.specs.declared.item.ItemBody.TheVariants as body
 use Rattle.markdown_base.specs.declared.node.Node.{Node}
 use Rattle.markdown_base.proofs.ArenaForestLemmas.{opens}
 use Rattle.markdown_base.proofs.ArenaLemmas.{length-changed_at}
+use Rattle.markdown_base.proofs.WellFormedLemmas.{closed_no_run}
 use Rattle.markdown_document.specs.ChainRest.{begun_at, end_of, joined_chains, past, past_byte}
 use Rattle.markdown_document.specs.Document.{Plain, tree_node_of}
 use Rattle.markdown_document.specs.ItemRules.{ComesBefore}
@@ -144,11 +144,6 @@ whole_put source ix old mid new tables t later trees goes_on rule ready h hm bef
       runs = λ b whole. rw hm.item (runs b whole);
       rewritten = hm.trees ∙ reads ∙ rw a.here refl;
     }
-
--- an item that is not open is where an open one was, which is not a run's character
-pub closed_no_run : (b : ItemBody) → is_open b ≡ false → run_character b ≡ None
-closed_no_run (body.MaybeEmphasis count opens closes) h = cc h
-closed_no_run other h = refl
 
 pub record ClosesAt (ix : ℕ) (old mid : List (Node Item)) : Type 0 where
   pub was_open : is_open (item_at old ix).body ≡ true

@@ -12,6 +12,7 @@ use Rattle.markdown_base.specs.Item.{is_block, is_open}
 use Rattle.markdown_base.specs.declared.item.Item.{Item}
 use Rattle.markdown_base.specs.declared.node.Node.{Node}
 use Rattle.markdown_base.proofs.ArenaForestLemmas.{opens}
+use Rattle.markdown_base.proofs.WellFormedLemmas.{closed_no_run}
 use Rattle.markdown_document.specs.ChainRest.{past_byte}
 use Rattle.markdown_document.specs.Document.{Plain, tree_node_of}
 use Rattle.markdown_document.specs.ItemRules.{ComesBefore}
@@ -44,8 +45,8 @@ use Rattle.markdown_resolver.proofs.FoldLemmas.{first_after, folded_moves, item_
 use Rattle.markdown_resolver.proofs.FoldLemmas.{whole_childless}
 use Rattle.markdown_resolver.proofs.PastByteLemmas.{tree_same}
 use Rattle.markdown_resolver.proofs.PutFoundLemmas.{closed_head}
-use Rattle.markdown_resolver.proofs.PutLemmas.{rewrites_none, next_from, over_numbers, quiet_past_byte, closed_no_run}
-use Rattle.markdown_resolver.proofs.PutLemmas.{leads_begun, no_run_here, run_closed, first_kept, RestPast, rest_past_is}
+use Rattle.markdown_resolver.proofs.PutLemmas.{rewrites_none, next_from, over_numbers, quiet_past_byte, leads_begun}
+use Rattle.markdown_resolver.proofs.PutLemmas.{no_run_here, run_closed, first_kept, RestPast, rest_past_is}
 
 -- what is left of a quiet chain is quiet
 quiet_trees : (k : ℕ) (f : Forest Plain) → IsQuietBelow f → IsQuietBelow (trees_past k f)

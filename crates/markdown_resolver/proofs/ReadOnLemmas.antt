@@ -1,7 +1,8 @@
 -- How far a chain in an arena was read: at first none of it, then one stretch after another, and in the end all of it,
 -- which resolves it by pass one. Where memory is refused after a stretch, it is refused on the way.
-use Rattle.std.proofs.Common.{◌≡◌, ℕ, ◌+◌, Bool, true, false, ◌||◌, ◌==◌, List, [], ◌∷◌, ◌++◌, Option, Some, None, refl}
-use Rattle.std.proofs.Common.{sym, ap, ◌∙◌, arith, append-nil, append_assoc}
+use Rattle.std.proofs.Common.{◌≡◌, ℕ, ◌+◌, ◌||◌, ◌==◌, List, [], ◌∷◌, ◌++◌, Option, Some, None, refl, sym, ap, ◌∙◌}
+use Rattle.std.proofs.Common.{arith, append-nil, append_assoc}
+use Rattle.std.proofs.Math.Bool.{or_assoc}
 use Rattle.markdown_base.specs.ArenaForest.{links_of}
 use Rattle.markdown_base.specs.Forest.{Forest, nil}
 use Rattle.markdown_base.specs.Questions.{Question, Answer, Answers}
@@ -27,15 +28,11 @@ use Rattle.markdown_resolver.proofs.PutsTreesLemmas.{plain_from}
 use Rattle.markdown_resolver.proofs.StandsToLemmas.{changes_twice}
 use Rattle.markdown_resolver.proofs.ComposeLemmas.{moves_change, moves_none, stands_ready}
 
-or_assoc : (a b c : Bool) → (a || (b || c)) ≡ ((a || b) || c)
-or_assoc true b c = refl
-or_assoc false b c = refl
-
 -- an end is among those of two lists
 among_append : (n : ℕ) (xs ys : List ℕ) → among n (xs ++ ys) ≡ (among n xs || among n ys)
 among_append n [] ys = refl
 among_append n (m ∷ xs) ys = ap (λ b. (n == m) || b) (among_append n xs ys)
-    ∙ or_assoc (n == m) (among n xs) (among n ys)
+    ∙ sym (or_assoc (n == m) (among n xs) (among n ys))
 
 -- the ends that were used up are still all held
 pub spent_more : (spent spent' : SpentEnds) (ends before : List ℕ)
@@ -99,8 +96,9 @@ module _ {C : Type 0} (step : C → Question → Option Answer → C → Type 0)
         q.asked;
     ends = q.ends ++ r.ends;
     spends = λ end.
-        q.spends end ∙ ap (λ b. among end q.ends || b) (r.spends end) ∙ or_assoc (among end q.ends) (among end r.ends)
-        (is_spent spent end) ∙ ap (λ b. b || is_spent spent end) (sym (among_append end q.ends r.ends));
+        q.spends end ∙ ap (λ b. among end q.ends || b) (r.spends end)
+        ∙ sym (or_assoc (among end q.ends) (among end r.ends) (is_spent spent end))
+        ∙ ap (λ b. b || is_spent spent end) (sym (among_append end q.ends r.ends));
     made = r.made + q.made;
     reads = λ p later are.
         first_reads p q.answers later are

@@ -1,12 +1,13 @@
 -- The text of a span is a slice of the bytes between its delimiters where its origin says so; so are the address of an
 -- autolink and the name of a wikilink.
-use Rattle.std.proofs.Common.{◌≡◌, ℕ, ◌+◌, ◌-◌, ◌≤◌, Bool, true, false, ◌&&◌, ◌||◌, not, List, [], ◌∷◌, Option}
-use Rattle.std.proofs.Common.{Some, None, length, take, drop, refl, sym, ap, subst, arith}
+use Rattle.std.proofs.Common.{◌≡◌, ℕ, ◌+◌, ◌-◌, ◌≤◌, Bool, true, false, ◌&&◌, ◌||◌, not, List, [], ◌∷◌, Option, Some}
+use Rattle.std.proofs.Common.{None, length, take, drop, refl, sym, ap, subst, arith}
 use Rattle.std.specs.Prelude.{IfSome, if◌then◌else◌, is_some, slice_range}
 use Rattle.std.specs.Option.{option_and_then, option_map, option_or}
 use Rattle.markdown_base.specs.Forest.{Forest, node}
 use Rattle.markdown_brackets.specs.BracketDecision.{BracketContext, Wikilink, shown_children, wikilink_by, wikilink_in}
 use Rattle.markdown_brackets.specs.Wikilink.{WikilinkBody, has_pothole, wikilink_body}
+use Rattle.markdown_brackets.proofs.WrittenLemmas.{whole_range}
 use Rattle.markdown_document.specs.ChainRest.{start_of}
 use Rattle.markdown_document.specs.Document.{TreeNode}
 use Rattle.markdown_document.specs.EnclosingBlocks.{EnclosingBlocks}
@@ -15,9 +16,8 @@ use Rattle.markdown_document.specs.Setting.{Setting}
 use Rattle.markdown_spans.specs.LineEnd.{line_ending}
 use Rattle.markdown_spans.specs.AfterLess.{Markup, address_at, autolink, html_at, html_markup, markup_at}
 use Rattle.markdown_spans.specs.Autolink.{uri_autolink}
-use Rattle.markdown_spans.specs.CodeText.{Piece, begins_escaped_pipe, has_outer_spaces, is_sliced}
-use Rattle.markdown_spans.specs.CodeText.{lines_joined, piece_at}
-use Rattle.markdown_spans.specs.CodeText.{replaced_past, shown_ending, span_text, without_outer_spaces}
+use Rattle.markdown_spans.specs.CodeText.{Piece, begins_escaped_pipe, has_outer_spaces, is_sliced, lines_joined}
+use Rattle.markdown_spans.specs.CodeText.{piece_at, replaced_past, shown_ending, span_text, without_outer_spaces}
 use Rattle.markdown_spans.specs.Finds.{prefix_below, span_between}
 use Rattle.markdown_spans.specs.declared.after_less.AutolinkKind.TheVariants.{Uri, Email}
 use Rattle.markdown_spans.specs.declared.span_text.SpanKind.{SpanKind}
@@ -101,9 +101,6 @@ span_slice s above kind start end order = λ is.
 
 -- ---- autolinks
 
-first_bytes : (text : List ℕ) (size : ℕ) → slice_range text 0 size ≡ take size text
-first_bytes text size = let e : size - 0 ≡ size = omega arith in ap (λ n. take n text) e
-
 -- an address is a slice of the source, from the `<` on
 abbrev pub AddressIn : List ℕ → ℕ → Markup → Type 0
 AddressIn source at (autolink kind end bytes) = IsSliceWithin source at end bytes
@@ -124,7 +121,7 @@ markup_slice skipped addresses source size start at =
         let a : 0 + at ≡ at = omega arith in
         let b : 0 + found.0 ≡ found.0 = omega arith in
         rw (a, b) at (slice_of_slice source 0 size at found.0 found.1
-        (subst (λ (t : List ℕ). IsSliceWithin t at found.0 found.1) (sym (first_bytes source size)) h))
+        (subst (λ (t : List ℕ). IsSliceWithin t at found.0 found.1) (sym (whole_range source size)) h))
 
     by : (uri address : Option (ℕ × List ℕ)) (tag : Option (ℕ × Option (List ℕ)))
         → IfSome uri (λ found. IsSliceWithin text at found.0 found.1)

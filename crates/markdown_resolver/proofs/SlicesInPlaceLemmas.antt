@@ -4,6 +4,7 @@
 use Rattle.std.proofs.Common.{◌≡◌, ℕ, Bool, true, false, ◌&&◌, ◌==◌, List, [], refl, sym, ap, subst, ⊎_elim, inl, inr}
 use Rattle.std.specs.Prelude.{IsTrue, ◌⊎◌, if◌then◌else◌, slice_range}
 use Rattle.std.specs.List.{list_all}
+use Rattle.std.proofs.lemmas.Bool.{and_parts}
 use Rattle.markdown_base.specs.BlockTree.{Numbered, tree_of}
 use Rattle.markdown_base.specs.Event.{TagView}
 use Rattle.markdown_base.specs.Forest.{Forest, nil, node, relabelled, roots}
@@ -18,8 +19,7 @@ use Rattle.markdown_delims.specs.declared.extensions.Extensions.{Extensions}
 use Rattle.markdown_delims.specs.Layers.{enclosed_if, extensions_of, layer_of_one, layer_of_two, spanned}
 use Rattle.markdown_delims.specs.Pairing.{paired}
 use Rattle.markdown_delims.specs.Quotes.{double_turn, first_turn, is_closed_later, is_end, kind_of_shape, left_single}
-use Rattle.markdown_delims.specs.Quotes.{quotes_after, right_single, single_turn, turn_by}
-use Rattle.markdown_delims.specs.Quotes.{with_quotes}
+use Rattle.markdown_delims.specs.Quotes.{quotes_after, right_single, single_turn, turn_by, with_quotes}
 use Rattle.markdown_delims.specs.declared.quotes.Kind.TheVariants as quote_kind
 use Rattle.markdown_delims.specs.declared.run.Delimiter.{Delimiter}
 use Rattle.markdown_delims.specs.declared.run.Delimiter.TheVariants.{Star, Underscore, Tilde, Caret}
@@ -33,7 +33,7 @@ use Rattle.markdown_resolver.specs.Kept.{EachChain}
 use Rattle.markdown_resolver.specs.Resolved.{all_paired, paired_from, paired_if_open, resolved}
 use Rattle.markdown_resolver.specs.SlicesInPlace.{ResolvesInPlace, SlicesInPlace, shows_after_pipe}
 use Rattle.markdown_resolver.proofs.ApartLemmas.{LieApart}
-use Rattle.markdown_resolver.proofs.NestedChainsLemmas.{both, chains_of, document_apart, inline_childless}
+use Rattle.markdown_resolver.proofs.NestedChainsLemmas.{chains_of, document_apart, inline_childless}
 use Rattle.markdown_resolver.proofs.PassOneSlicesLemmas.{IsFresh, in_place-none, no_pipe, pass_one_in_place, refers}
 
 -- ---- pairing
@@ -196,7 +196,7 @@ module _ (source : List ℕ) (tables : Tables) (counts : PartCounts) where
       → IsFresh (relabelled (λ (a : Numbered). tree_node_of source tables a.item) f)
   chain_fresh nil h all = tt
   chain_fresh (node a below after) h all =
-      let inline = both (is_inline a.item.body) (list_all (λ n. is_inline n.item.body) (roots after)) all in
+      let inline = and_parts (is_inline a.item.body) (list_all (λ n. is_inline n.item.body) (roots after)) all in
       let none : below ≡ nil = h.0.chains_are_kept.childless (inline_childless (body_kind a.item.body) inline.0) in (
         unresolved_refers tables (slice_range source a.item.start a.item.end) a.item.body h.0.nothing_resolved,
         ap (relabelled (λ (a : Numbered). tree_node_of source tables a.item)) none,

@@ -11,9 +11,8 @@ use Rattle.markdown_base.proofs.ArenaForestLemmas.{opens, forest_at-none}
 use Rattle.markdown_brackets.specs.ChainHeld.{numbers_of}
 use Rattle.markdown_brackets.specs.Finish.{IsSplit}
 use Rattle.markdown_brackets.specs.LeftList.{OpenerState, Entry, done, waits, Split, on_states, second_folded}
-use Rattle.markdown_brackets.specs.LeftList.{before_link}
-use Rattle.markdown_brackets.specs.LeftList.{before_wikilink, before_footnote, disabled_state, without_bracket}
-use Rattle.markdown_brackets.specs.LeftList.{without_wikilink, change_nearest, trees_onto}
+use Rattle.markdown_brackets.specs.LeftList.{before_link, before_wikilink, before_footnote, disabled_state}
+use Rattle.markdown_brackets.specs.LeftList.{without_bracket, without_wikilink, change_nearest, trees_onto}
 use Rattle.markdown_brackets.proofs.OpenerHeldLemmas.{trees_stay}
 use Rattle.markdown_document.specs.ChainRest.{joined_chains}
 use Rattle.markdown_document.specs.Document.{TreeNode}

@@ -2,8 +2,8 @@
 -- character, and what is left of a chain past a byte offset begins with a whole character of a run or with none.
 use Rattle.markdown_resolver.proofs.EncloseLemmas.{run_none}
 use Rattle.markdown_resolver.proofs.PutLemmas.{run_closed}
-use Rattle.std.proofs.Common.{◌≡◌, ℕ, suc, ◌+◌, ◌-◌, ◌<◌, Bool, true, false, List, Option, Some, None, max, refl}
-use Rattle.std.proofs.Common.{sym, ap, subst, ◌∙◌, nat_le, arith}
+use Rattle.std.proofs.Common.{◌≡◌, ℕ, suc, ◌+◌, ◌-◌, ◌<◌, Bool, true, false, List, Option, Some, None, max, refl, sym}
+use Rattle.std.proofs.Common.{ap, subst, ◌∙◌, nat_le, arith}
 use Rattle.std.proofs.lemmas.Bool.{leb-false}
 use Rattle.std.specs.Prelude.{IfSome, if◌then◌else◌, [], ◌∷◌, ⊤}
 use Rattle.std.specs.Option.{option_map}
@@ -18,17 +18,17 @@ use Rattle.markdown_brackets.specs.BracketDecision.{wikilink_in}
 use Rattle.markdown_brackets.specs.ClosingBracket.{closed, footnote_from, footnote_onto, linked, tag_for}
 use Rattle.markdown_brackets.specs.ClosingBracket.{wikilink_target}
 use Rattle.markdown_brackets.specs.LeftList.{Entry, OpenerState, Split, before_footnote, before_link, with_entry}
-use Rattle.markdown_brackets.specs.LeftList.{change_nearest}
-use Rattle.markdown_brackets.specs.LeftList.{disabled_state, done, inside, nearest, on_states, opens_bracket}
-use Rattle.markdown_brackets.specs.LeftList.{opens_wikilink, second_folded, trees_onto, waits, without_bracket}
-use Rattle.markdown_brackets.specs.LeftList.{without_wikilink, all_done}
+use Rattle.markdown_brackets.specs.LeftList.{change_nearest, disabled_state, done, inside, nearest, on_states}
+use Rattle.markdown_brackets.specs.LeftList.{opens_bracket, opens_wikilink, second_folded, trees_onto, waits}
+use Rattle.markdown_brackets.specs.LeftList.{without_bracket, without_wikilink, all_done}
 use Rattle.markdown_brackets.specs.ReadChain.{begun, closing_of, opened, read, read_as, read_chain, read_past}
 use Rattle.markdown_brackets.proofs.ClosingBracketLemmas.{Cases, in_each_case, some_of}
 use Rattle.markdown_brackets.proofs.NoLinkLemmas.{wikilink_keeps}
+use Rattle.markdown_brackets.proofs.QuestionEndsLemmas.{cut_body}
 use Rattle.markdown_document.specs.EnclosingBlocks.{EnclosingBlocks}
 use Rattle.markdown_document.specs.ChainRest.{begun_at, cut_shape, end_of, joined_chains, open_body, past, past_byte}
 use Rattle.markdown_document.specs.ChainRest.{start_of}
-use Rattle.markdown_document.specs.Document.{Notes, Origin, Shape, leaf, enclosed, unresolved, TreeNode, as_text}
+use Rattle.markdown_document.specs.Document.{Notes, Origin, Shape, enclosed, unresolved, TreeNode, as_text}
 use Rattle.markdown_document.specs.Document.{is_unresolved}
 use Rattle.markdown_document.specs.TreeNodes.{Begins}
 use Rattle.markdown_document.specs.Setting.{Setting, ReferenceState}
@@ -50,11 +50,6 @@ quiet_no_run other h = refl
 closed_no_run : (shape : Shape) → is_unresolved shape ≡ false → run_character (open_body shape) ≡ None
 closed_no_run (unresolved b) h = cc h
 closed_no_run other h = refl
-
--- cutting leaves a run's character as it is
-pub cut_run : (n : ℕ) (shape : Shape) → open_body (cut_shape n shape) ≡ open_body shape
-cut_run n (leaf e origins) = refl
-cut_run n other = refl
 
 -- an item that begins where it did
 same_start : (start end i : ℕ) → end ≡ suc start → i < end → max start i ≡ start
@@ -107,13 +102,13 @@ module _ {A : Type 0} where
           end = end_of a;
           body = b;
         };
-      } in p) (cut_run (i - start_of a) a.part.shape)
+      } in p) (cut_body (i - start_of a) a.part.shape)
 
   begun_whole : (source : List ℕ) (i : ℕ) (a : TreeNode A) (after : Forest (TreeNode A)) → i < end_of a
       → (o : Option RunCharacter) → run_character (open_body a.part.shape) ≡ o
       → IsWholeAt source a after → IsWholeAt source (begun_at i a) after
   begun_whole source i a after past None e w = whole_other source (begun_at i a) after
-      (ap run_character (cut_run (i - start_of a) a.part.shape) ∙ e)
+      (ap run_character (cut_body (i - start_of a) a.part.shape) ∙ e)
   begun_whole source i a after past (Some c) e w =
       let whole : StandsInRun source (by_place a) (option_map by_place (first_root after)) c =
       subst (λ o. IfSome o (StandsInRun source (by_place a) (option_map by_place (first_root after)))) e w in

@@ -1,8 +1,8 @@
 -- What a wikilink shows begins and ends between characters, as the items before its `]` do, and so does a text after a
 -- `|`, which is one byte. No byte offset cuts an open item of its body: only characters of runs and quotation marks are
 -- open there, of one byte each.
-use Rattle.std.proofs.Common.{◌≡◌, ℕ, ◌+◌, ◌-◌, ◌<◌, ◌≤◌, Bool, true, false, ◌==◌, List, [], ◌∷◌, Option}
-use Rattle.std.proofs.Common.{Some, None, IsUtf8, length, take, drop, get_or, refl, sym, ap, ◌∙◌, subst, arith}
+use Rattle.std.proofs.Common.{◌≡◌, ℕ, ◌+◌, ◌-◌, ◌<◌, ◌≤◌, Bool, true, false, ◌==◌, List, [], ◌∷◌, Option, Some, None}
+use Rattle.std.proofs.Common.{IsUtf8, length, take, drop, get_or, refl, sym, ap, ◌∙◌, subst, arith}
 use Rattle.std.specs.Prelude.{IfSome, if◌then◌else◌, nat_le, nat_lt, position, slice_range, ⊤}
 use Rattle.std.specs.List.{position_or_len}
 use Rattle.std.specs.Option.{option_and_then, option_map}
@@ -22,8 +22,7 @@ use Rattle.markdown_base.specs.declared.item.ItemBody.{ItemBody}
 use Rattle.markdown_base.specs.declared.item.ItemBody.TheVariants as body
 use Rattle.markdown_base.specs.declared.node.Node.{Node}
 use Rattle.markdown_brackets.specs.BracketDecision.{BracketContext, Wikilink, shown_children, if_some, past_second}
-use Rattle.markdown_brackets.specs.BracketDecision.{wikilink_by}
-use Rattle.markdown_brackets.specs.BracketDecision.{wikilink_in}
+use Rattle.markdown_brackets.specs.BracketDecision.{wikilink_by, wikilink_in}
 use Rattle.markdown_brackets.specs.LeftList.{OpenerState, Entry, Split, inside, nearest, trees_onto}
 use Rattle.markdown_brackets.specs.Wikilink.{Shows, WikilinkBody, cut_at, has_pothole, named, shown_from, shows_from}
 use Rattle.markdown_brackets.specs.Wikilink.{shows_name, shows_nothing, wikilink_body}

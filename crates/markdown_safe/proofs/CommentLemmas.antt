@@ -1,6 +1,6 @@
 -- Pieces of raw HTML, from one comment to the next.
-use Rattle.std.proofs.Common.{◌≡◌, ◌<◌, ◌≤◌, ◌++◌, ℕ, zero, suc, Bool, true, false, List, [], ◌∷◌, length, take}
-use Rattle.std.proofs.Common.{refl, sym, ap, ◌∙◌, append-nil, arith, subst, ⊎_elim, None}
+use Rattle.std.proofs.Common.{◌≡◌, ◌<◌, ◌≤◌, ◌++◌, ℕ, zero, suc, Bool, true, false, List, [], ◌∷◌, length, take, refl}
+use Rattle.std.proofs.Common.{sym, ap, ◌∙◌, append-nil, arith, subst, ⊎_elim, None}
 use Rattle.std.proofs.Math.ListN.{drop}
 use Rattle.std.specs.Prelude.{codes, nat_eq}
 use Rattle.std.specs.List.{starts_with}
@@ -11,8 +11,7 @@ use Rattle.std.proofs.lemmas.Bool.{cases_Bool, or_from, or_parts}
 use Rattle.std.proofs.lemmas.Str.Pattern.{contains_text}
 use Rattle.std.proofs.lemmas.Bool.Decides.{Decides-eqb}
 use Rattle.std.proofs.lemmas.Slice.Eq.{starts_is}
-use Rattle.markdown_safe.specs.Comments.{opens_comment, closes_comment, has_comment, has_opening}
-use Rattle.markdown_safe.specs.Comments.{shown_html}
+use Rattle.markdown_safe.specs.Comments.{opens_comment, closes_comment, has_comment, has_opening, shown_html}
 use Rattle.markdown_safe.specs.CommentSteps.{IsReadTo}
 
 -- bytes in which a text does not occur at the beginning do not begin with it

@@ -1,10 +1,9 @@
 -- The tags of nested events nest.
-use Rattle.std.proofs.Common.{◌≡◌, ◌++◌, ℕ, zero, suc, Bool, true, false, not, List, [], ◌∷◌, map, reverse}
-use Rattle.std.proofs.Common.{length}
+use Rattle.std.proofs.Common.{◌≡◌, ◌++◌, ℕ, zero, suc, Bool, true, false, not, List, [], ◌∷◌, map, reverse, length}
 use Rattle.std.proofs.Common.{refl, sym, ap, ◌∙◌, append_assoc, append-nil, codes, Option, Some, None, subst}
 use Rattle.std.specs.List.{list_any}
 use Rattle.std.proofs.lemmas.List.{reverse-append}
-use Rattle.std.proofs.lemmas.Bool.{and_parts}
+use Rattle.std.proofs.lemmas.Bool.{not-true, and_parts}
 use Rattle.markdown_base.specs.Event as event
 use Rattle.markdown_base.specs.Event.{EventView, TagView, start, end, tag_end}
 use Rattle.markdown_base.specs.declared.tag.TagEnd.{TagEnd}
@@ -170,10 +169,6 @@ cell_begins turns head awaited s k = record {
   near = λ h. no h;
 }
 
-pub not_true : (b : Bool) → not b ≡ true → b ≡ false
-not_true true h = no h
-not_true false h = refl
-
 begins : (tag : TagView) (turns : List Turn) (head bare : Bool) (awaited : List TagEnd)
     → Stands turns head bare awaited → keeps_tables_whole (start tag) awaited bare ≡ true
     → BeginsAt tag turns head awaited
@@ -181,7 +176,7 @@ begins (event.image i) turns head bare awaited s k = tt
 begins event.table_head turns head true awaited s k = head_begins turns head awaited s
 begins event.table_head turns head false awaited s k = no k
 begins (event.table alignments) turns head false awaited s k =
-    record { nest = further _ _ s refl; fit = (not_true _ k, s.fit); told = tt; near = λ h. refl }
+    record { nest = further _ _ s refl; fit = (not-true _ k, s.fit); told = tt; near = λ h. refl }
 begins event.table_row turns head false awaited s k =
     record { nest = further _ _ s refl; fit = (k, s.fit); told = s.told; near = λ h. no h }
 begins event.table_cell turns head false awaited s k = cell_begins turns head awaited s k

@@ -9,11 +9,10 @@ use Rattle.markdown_base.specs.declared.tag.MetadataBlockKind.TheVariants as met
 use Rattle.markdown_base.specs.declared.tag.TagEnd.{TagEnd}
 use Rattle.markdown_base.specs.declared.tag.TagEnd.TheVariants as closes
 use Rattle.markdown_event_laws.specs.NestedEvents.{awaited_after, IsAwaited, NestFrom, AreNested, starts_table}
-use Rattle.markdown_event_laws.specs.NestedEvents.{keeps_tables_whole, keep_tables_whole, tables_are_whole}
-use Rattle.markdown_event_laws.specs.NestedEvents.{each_passes, keeps_items_in_lists, keeps_headings_apart}
-use Rattle.markdown_event_laws.specs.NestedEvents.{items_are_in_lists, headings_are_apart}
+use Rattle.markdown_event_laws.specs.NestedEvents.{keeps_tables_whole, keep_tables_whole, tables_are_whole, each_passes}
+use Rattle.markdown_event_laws.specs.NestedEvents.{keeps_items_in_lists, keeps_headings_apart, items_are_in_lists}
+use Rattle.markdown_event_laws.specs.NestedEvents.{headings_are_apart, keeps_table_parts_alone, table_parts_are_alone}
 use Rattle.markdown_safe.specs.PageParts.{end_number, is_awaited, none_is_awaited, may_come, is_part_from, is_page_part}
-use Rattle.markdown_event_laws.specs.NestedEvents.{keeps_table_parts_alone, table_parts_are_alone}
 
 -- the Ends by their numbers
 abbrev ends : List TagEnd

@@ -1,21 +1,19 @@
 -- What is open tells whether an event may come next in a part of a page.
-use Rattle.std.proofs.Common.{◌≡◌, ◌==◌, ◌&&◌, ◌||◌, ◌+◌, ◌<◌, ℕ, Bool, true, false}
-use Rattle.std.proofs.Common.{not, List, [], ◌∷◌, map, drop, length}
-use Rattle.std.proofs.Common.{refl, sym, ap, ◌∙◌, slice_index_or}
+use Rattle.std.proofs.Common.{◌≡◌, ◌==◌, ◌&&◌, ◌||◌, ◌+◌, ◌<◌, ℕ, Bool, true, false, not, List, [], ◌∷◌, map, drop}
+use Rattle.std.proofs.Common.{length, refl, sym, ap, ◌∙◌, slice_index_or}
 use Rattle.std.specs.List.{list_any}
 use Rattle.std.proofs.Math.Bool.{and-true}
 use Rattle.std.proofs.lemmas.List.{drop_more}
-use Rattle.markdown_base.specs.Event.{EventView, TagView, event_view, start, end}
-use Rattle.markdown_base.specs.Event.{heading, list_item, table, table_cell, table_head, table_row}
+use Rattle.markdown_base.specs.Event.{EventView, TagView, event_view, start, end, heading, list_item, table, table_cell}
+use Rattle.markdown_base.specs.Event.{table_head, table_row}
 use Rattle.markdown_base.specs.declared.event.Event.{Event}
 use Rattle.markdown_base.specs.declared.tag.TagEnd.{TagEnd}
 use Rattle.markdown_base.specs.declared.tag.TagEnd.TheVariants as closes
 use Rattle.markdown_event_laws.specs.NestedEvents.{ends_list, ends_table, nearest_is, closes_heading, awaited_after}
-use Rattle.markdown_event_laws.specs.NestedEvents.{starts_table}
+use Rattle.markdown_event_laws.specs.NestedEvents.{starts_table, ends_rows_or_cells}
 use Rattle.markdown_safe.specs.declared.page_part.Around.{Around}
 use Rattle.markdown_safe.specs.PageParts.{end_number, may_come, is_part_from}
 use Rattle.markdown_safe.specs.PagePlaces.{around_of, nearest_of, is_plain, may_start, may_be_next}
-use Rattle.markdown_event_laws.specs.NestedEvents.{ends_rows_or_cells}
 use Rattle.markdown_safe.proofs.PagePartsLemmas.{same_end}
 
 -- no list, no table, and no head or row of one

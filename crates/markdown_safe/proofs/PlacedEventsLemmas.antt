@@ -1,10 +1,10 @@
 -- The elements of nested events stand where they may, where tables, lists, headings and links hold what they should.
-use Rattle.std.proofs.Common.{◌≡◌, ◌++◌, ℕ, Bool, true, false, not, List, [], ◌∷◌, map, reverse}
-use Rattle.std.proofs.Common.{refl, sym, ap, ◌∙◌, append_assoc, append-nil, codes, Option, Some, None, subst}
+use Rattle.std.proofs.Common.{◌≡◌, ◌++◌, ℕ, Bool, true, false, not, List, [], ◌∷◌, map, reverse, refl, sym, ap, ◌∙◌}
+use Rattle.std.proofs.Common.{append_assoc, append-nil, codes, Option, Some, None, subst}
 use Rattle.std.specs.List.{list_any}
 use Rattle.std.proofs.lemmas.List.{reverse-append}
 use Rattle.std.proofs.lemmas.List.Folds.{list_any-append}
-use Rattle.std.proofs.lemmas.Bool.{and_parts}
+use Rattle.std.proofs.lemmas.Bool.{not-true, and_parts}
 use Rattle.markdown_base.specs.Event as event
 use Rattle.markdown_base.specs.Event.{EventView, TagView, start, end, tag_end}
 use Rattle.markdown_base.specs.declared.tag.HeadingLevel.{HeadingLevel}
@@ -13,22 +13,20 @@ use Rattle.markdown_base.specs.declared.tag.TagEnd.{TagEnd}
 use Rattle.markdown_base.specs.declared.tag.TagEnd.TheVariants as tag_ends
 use Rattle.markdown_out.specs.EventHtml.{html_by}
 use Rattle.markdown_out.specs.LookBacks.{OpenImageView, image_before, told_by, head_after}
-use Rattle.markdown_event_laws.specs.NestedEvents.{awaited_after, IsAwaited, NestFrom, AreNested}
-use Rattle.markdown_event_laws.specs.NestedEvents.{ends_table, ends_cells, ends_list, nearest_is, starts_table}
-use Rattle.markdown_event_laws.specs.NestedEvents.{keeps_tables_whole, keep_tables_whole}
-use Rattle.markdown_event_laws.specs.NestedEvents.{each_passes, closes_heading, keeps_items_in_lists}
-use Rattle.markdown_event_laws.specs.NestedEvents.{keeps_headings_apart}
+use Rattle.markdown_event_laws.specs.NestedEvents.{awaited_after, IsAwaited, NestFrom, AreNested, ends_table}
+use Rattle.markdown_event_laws.specs.NestedEvents.{ends_cells, ends_list, nearest_is, starts_table, keeps_tables_whole}
+use Rattle.markdown_event_laws.specs.NestedEvents.{keep_tables_whole, each_passes, closes_heading, keeps_items_in_lists}
+use Rattle.markdown_event_laws.specs.NestedEvents.{keeps_headings_apart, ends_rows_or_cells, keeps_table_parts_alone}
 use Rattle.markdown_out.specs.declared.html.rules.HtmlRules.{HtmlRules}
 use Rattle.markdown_safe.specs.SafeEvents.{safe_event}
 use Rattle.markdown_safe.specs.SafeHtml.{is_listed}
 use Rattle.markdown_safe.specs.LinksApart.{closes_link, keeps_links_apart}
-use Rattle.markdown_event_laws.specs.NestedEvents.{ends_rows_or_cells, keeps_table_parts_alone}
 use Rattle.markdown_safe.specs.PlacedTree.{heading_elements, is_directly_in, link_elements, may_stand, IsPlacedTree}
 use Rattle.markdown_safe.proofs.SafeHtmlLemmas.{Turn}
 use Rattle.markdown_safe.proofs.SafeTagsLemmas.{event_turns, level_name, cell_name}
 use Rattle.markdown_safe.proofs.SafeEventsLemmas.{turns_by_image, turns_before}
 use Rattle.markdown_safe.proofs.NestedEventsLemmas.{ends_head, own, elements, Stands, StandsBy, near_table, event_after}
-use Rattle.markdown_safe.proofs.NestedEventsLemmas.{tree_of_events, Fits, no, not_true}
+use Rattle.markdown_safe.proofs.NestedEventsLemmas.{tree_of_events, Fits, no}
 use Rattle.markdown_safe.proofs.PlacedTreeLemmas.{PlacedFrom, placed-append, tree_is_placed}
 
 -- an element of a kind is open where an End of that kind is awaited, and nowhere else
@@ -185,12 +183,12 @@ start_placed (event.image i) head bare awaited s k c = tt
 start_placed (event.metadata_block kind) head bare awaited s k c = tt
 start_placed (event.heading h) head false awaited s k c = (
   heading_stands h.level (elements false awaited) (is_plain awaited (k.items, k.alone) c)
-      (kind_is_open heading_elements closes_heading own_heading false awaited ∙ not_true _ k.headings),
+      (kind_is_open heading_elements closes_heading own_heading false awaited ∙ not-true _ k.headings),
   tt,
 )
 start_placed (event.link l) head false awaited s k c = (
   link_stands (elements false awaited) (is_plain awaited (k.items, k.alone) c)
-      (kind_is_open link_elements closes_link own_link false awaited ∙ not_true _ k.links),
+      (kind_is_open link_elements closes_link own_link false awaited ∙ not-true _ k.links),
   tt,
 )
 start_placed (event.list None) head false awaited s k c =
@@ -234,7 +232,7 @@ event_placed (start tag) head bare awaited s k is c = start_placed tag head bare
 event_placed (end e) head bare awaited s k is c = end_placed e head bare awaited s k is
 event_placed (event.footnote_reference name) head false awaited s k is c =
     let p = is_plain awaited (k.items, k.alone) c in
-    let no_link = kind_is_open link_elements closes_link own_link false awaited ∙ not_true _ k.links in
+    let no_link = kind_is_open link_elements closes_link own_link false awaited ∙ not-true _ k.links in
     (rw (p.in_list, p.in_table, p.in_part, p.in_row) refl, (rw no_link refl, tt))
 event_placed (event.code t) head false awaited s k is c =
     let p = is_plain awaited (k.items, k.alone) c in

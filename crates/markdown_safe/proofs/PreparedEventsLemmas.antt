@@ -9,6 +9,7 @@ use Rattle.markdown_base.specs.Event.{EventView, LinkView, TagView, end, footnot
 use Rattle.markdown_base.specs.Event.{inline_html, link, start, tag_end}
 use Rattle.markdown_base.specs.declared.tag.TagEnd.{TagEnd}
 use Rattle.markdown_base.specs.declared.tag.TagEnd.TheVariants as closes
+use Rattle.markdown_base.proofs.BoolLemmas.{by_test}
 use Rattle.markdown_event_laws.specs.NestedEvents.{AreNested, IsAwaited, NestFrom, awaited_after, each_passes}
 use Rattle.markdown_event_laws.specs.NestedEvents.{ends_list, closes_heading, ends_cells, ends_table}
 use Rattle.markdown_event_laws.specs.NestedEvents.{ends_rows_or_cells, headings_are_apart, items_are_in_lists}
@@ -18,15 +19,15 @@ use Rattle.markdown_event_laws.specs.NestedEvents.{starts_table, table_parts_are
 use Rattle.markdown_safe.specs.LinksApart.{closes_link, keeps_links_apart, links_are_apart}
 use Rattle.markdown_safe.specs.OuterLinks.{links_after, outermost}
 use Rattle.markdown_safe.specs.NestNoDeeper.{nest_no_deeper, stays_within}
-use Rattle.markdown_safe.specs.SafeEvents.{SafePast, no_past, past_after, safe_event, safe_events, safe_from}
-use Rattle.markdown_safe.specs.SafeEvents.{safe_next, safe_tag}
+use Rattle.markdown_safe.specs.SafeEvents.{SafePast, no_past, past_after, safe_event, safe_events, safe_from, safe_next}
+use Rattle.markdown_safe.specs.SafeEvents.{safe_tag}
 use Rattle.markdown_safe.specs.Shallow.{no_depth}
 use Rattle.markdown_safe.specs.ShownImages.{image_end_shown, image_start_shown, shown_image}
 use Rattle.markdown_safe.specs.SafeRules.{SafeRulesView}
 use Rattle.markdown_safe.specs.declared.rules.Images.{Images}
 use Rattle.markdown_safe.specs.declared.rules.Images.TheVariants as images
 use Rattle.markdown_safe.proofs.RawEventsLemmas.{block_html_cases, inline_html_cases}
-use Rattle.markdown_safe.proofs.ShallowLemmas.{by_test, shallow_alone, shallow_deep, shallow_from, shallow_headings}
+use Rattle.markdown_safe.proofs.ShallowLemmas.{shallow_alone, shallow_deep, shallow_from, shallow_headings}
 use Rattle.markdown_safe.proofs.ShallowLemmas.{shallow_items, shallow_nest, shallow_tables}
 
 -- these events with images as they are shown and without links in links, where so many are open before the first

@@ -1,6 +1,6 @@
 -- The HTML of safe events is safe: event by event, outside images and inside them.
-use Rattle.std.proofs.Common.{◌≡◌, ◌++◌, ◌+◌, ℕ, zero, suc, Bool, true, false, List, [], ◌∷◌, map, reverse}
-use Rattle.std.proofs.Common.{refl, sym, ap, ◌∙◌, append_assoc, append-nil, codes, Option, Some, None, subst}
+use Rattle.std.proofs.Common.{◌≡◌, ◌++◌, ◌+◌, ℕ, zero, suc, Bool, true, false, List, [], ◌∷◌, map, reverse, refl, sym}
+use Rattle.std.proofs.Common.{ap, ◌∙◌, append_assoc, append-nil, codes, Option, Some, None, subst}
 use Rattle.std.specs.List.{list_all}
 use Rattle.std.specs.Fmt.{decimal}
 use Rattle.std.proofs.lemmas.List.{reverse-append, map-append}
@@ -18,15 +18,14 @@ use Rattle.markdown_out.specs.LookBacks.{unless_inside}
 use Rattle.markdown_out.specs.TagHtml.{image_parts, image_end}
 use Rattle.markdown_out.specs.declared.html.rules.HtmlRules.{HtmlRules}
 use Rattle.markdown_safe.specs.SafeHtml.{by_itself, is_in_value, void_tag, IsSafeHtml, IsStartOfSafeHtml}
-use Rattle.markdown_safe.specs.SafeEvents.{safe_block_html, safe_destination, safe_event, safe_inline_html}
-use Rattle.markdown_safe.specs.SafeEvents.{safe_name, safe_tag}
+use Rattle.markdown_safe.specs.SafeEvents.{safe_block_html, safe_destination, safe_event, safe_inline_html, safe_name}
+use Rattle.markdown_safe.specs.SafeEvents.{safe_tag}
 use Rattle.markdown_safe.specs.SafeUrl.{image_schemes}
 use Rattle.markdown_safe.proofs.RawEventsLemmas.{block_html_cases, inline_html_cases}
 use Rattle.markdown_safe.proofs.SafeHtmlLemmas.{of_pieces, both, IsValue, value-append, Turn, IsMarkup, markup_safe}
 use Rattle.markdown_safe.proofs.SafeHtmlLemmas.{value-empty, value-escaped, value-plain}
 use Rattle.markdown_safe.proofs.SafeTagsLemmas.{two, three, IsUrlValue, url_value, number_value, event_turns}
-use Rattle.markdown_safe.proofs.SafeTagsLemmas.{start_safe, start_turns}
-use Rattle.markdown_safe.proofs.SafeTagsLemmas.{other_safe}
+use Rattle.markdown_safe.proofs.SafeTagsLemmas.{start_safe, start_turns, other_safe}
 
 -- these bytes end in an image whose alt text is being written
 record IsOpenImage (bytes : List ℕ) (turns : List Turn) : Type 0 where

@@ -1,8 +1,7 @@
 -- Safe HTML piece by piece: what is escaped is safe, and so are tags whose attributes are.
 use Rattle.std.proofs.Common.{◌≡◌, ◌≢◌, ◌<◌, ◌≤◌, ◌+◌, ◌%◌, ◌/◌, ◌++◌, ◌==◌, ◌||◌, ℕ, zero, suc, Bool, true, false}
-use Rattle.std.proofs.Common.{List, [], ◌∷◌, map}
-use Rattle.std.proofs.Common.{refl, sym, ap, ◌∙◌, append-nil, arith, ◌⊎◌, inl, inr, codes, None, subst, if◌then◌else◌}
-use Rattle.std.proofs.Common.{nat_lt}
+use Rattle.std.proofs.Common.{List, [], ◌∷◌, map, refl, sym, ap, ◌∙◌, append-nil, arith, ◌⊎◌, inl, inr, codes, None}
+use Rattle.std.proofs.Common.{subst, if◌then◌else◌, nat_lt}
 use Rattle.std.specs.List.{flat_map, list_all, list_any}
 use Rattle.std.specs.Option.{option_map}
 use Rattle.std.specs.Char.{is_ascii_digit, is_ascii_alphanumeric}
@@ -17,9 +16,8 @@ use Rattle.markdown_out.specs.Escapes.{destination_escaped, is_kept_byte}
 use Rattle.markdown_out.specs.TagHtml.{may_be_in_scheme}
 use Rattle.markdown_safe.specs.SafeUrl.{before_colon, is_dropped_byte, is_safe_url}
 use Rattle.markdown_safe.specs.SafeHtml.{Character, by_itself, by_reference, character_bytes, meant, is_in_text}
-use Rattle.markdown_safe.specs.SafeHtml.{is_in_value}
-use Rattle.markdown_safe.specs.SafeHtml.{HtmlPiece, character, start_tag, end_tag, void_tag, bytes_of_piece}
-use Rattle.markdown_safe.specs.SafeHtml.{is_safe_piece, IsSafeHtml}
+use Rattle.markdown_safe.specs.SafeHtml.{is_in_value, HtmlPiece, character, start_tag, end_tag, void_tag}
+use Rattle.markdown_safe.specs.SafeHtml.{bytes_of_piece, is_safe_piece, IsSafeHtml}
 
 -- a tag opens an element, or closes one
 pub data Turn : Type 0 where

@@ -1,7 +1,7 @@
 -- What safe events write outside images is safe, with what its tags do: tag by tag.
 use Rattle.std.proofs.Common.{◌≡◌, ◌++◌, ◌==◌, ◌&&◌, ◌+◌, ℕ, zero, suc, Bool, true, false, not, List, [], ◌∷◌, map}
-use Rattle.std.proofs.Common.{refl, sym, ap, ◌∙◌, append_assoc, append-nil, codes, Option, Some, None}
-use Rattle.std.proofs.Common.{if◌then◌else◌, take, arith}
+use Rattle.std.proofs.Common.{refl, sym, ap, ◌∙◌, append_assoc, append-nil, codes, Option, Some, None, if◌then◌else◌}
+use Rattle.std.proofs.Common.{take, arith}
 use Rattle.std.specs.List.{flat_map, list_all, prefix_len, position_or_len}
 use Rattle.std.specs.Char.{is_ascii_whitespace}
 use Rattle.std.specs.Fmt.{decimal}
@@ -26,22 +26,19 @@ use Rattle.markdown_out.specs.Escapes.{text_escaped, attribute_escaped, destinat
 use Rattle.markdown_out.specs.EventHtml.{outside_parts}
 use Rattle.markdown_out.specs.LookBacks.{Past, place}
 use Rattle.markdown_out.specs.TagHtml.{new_line, heading_parts, quote_class, code_block_parts, cell_style, link_scheme}
-use Rattle.markdown_out.specs.TagHtml.{leaves_site, link_parts, start_parts, end_parts, language}
-use Rattle.markdown_out.specs.TagHtml.{rel_attribute, title_parts}
-use Rattle.markdown_out.specs.TagHtml.{level_digit}
-use Rattle.markdown_out.specs.TagHtml.{numbered_list_parts}
+use Rattle.markdown_out.specs.TagHtml.{leaves_site, link_parts, start_parts, end_parts, language, rel_attribute}
+use Rattle.markdown_out.specs.TagHtml.{title_parts, level_digit, numbered_list_parts}
 use Rattle.markdown_safe.specs.SafeUrl.{is_safe_url, link_schemes}
-use Rattle.markdown_safe.specs.SafeHtml.{by_itself, character_bytes, Attribute, HtmlPiece, character}
-use Rattle.markdown_safe.specs.SafeHtml.{start_tag, end_tag, bytes_of_piece, is_safe_piece}
-use Rattle.markdown_safe.specs.SafeHtml.{is_safe_class, tag_bytes, void_tag}
+use Rattle.markdown_safe.specs.SafeHtml.{by_itself, character_bytes, Attribute, HtmlPiece, character, start_tag}
+use Rattle.markdown_safe.specs.SafeHtml.{end_tag, bytes_of_piece, is_safe_piece, is_safe_class, tag_bytes, void_tag}
 use Rattle.markdown_safe.specs.SafeEvents.{is_name, safe_destination, safe_name, safe_target, safe_info}
-use Rattle.markdown_safe.specs.SafeEvents.{safe_link_destination, without_scheme}
-use Rattle.markdown_safe.specs.SafeEvents.{safe_block_html, safe_event, safe_inline_html, safe_tag}
+use Rattle.markdown_safe.specs.SafeEvents.{safe_link_destination, without_scheme, safe_block_html, safe_event}
+use Rattle.markdown_safe.specs.SafeEvents.{safe_inline_html, safe_tag}
 use Rattle.markdown_safe.proofs.RawEventsLemmas.{block_html_cases, inline_html_cases}
 use Rattle.markdown_safe.proofs.SafeHtmlLemmas.{of_pieces, both, text_safe, attribute_safe, IsValue, value-append}
-use Rattle.markdown_safe.proofs.SafeHtmlLemmas.{value-escaped, value-plain, digits_plain, decimal_digits}
-use Rattle.markdown_safe.proofs.SafeHtmlLemmas.{plain_safe, destination-escaped, destination-safe, Turn, opens, closes}
-use Rattle.markdown_safe.proofs.SafeHtmlLemmas.{turns_of, IsMarkup}
+use Rattle.markdown_safe.proofs.SafeHtmlLemmas.{value-escaped, value-plain, digits_plain, decimal_digits, plain_safe}
+use Rattle.markdown_safe.proofs.SafeHtmlLemmas.{destination-escaped, destination-safe, Turn, opens, closes, turns_of}
+use Rattle.markdown_safe.proofs.SafeHtmlLemmas.{IsMarkup}
 
 -- the elements of a heading and of a cell
 abbrev pub level_name : HeadingLevel → List ℕ

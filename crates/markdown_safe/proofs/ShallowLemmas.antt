@@ -9,6 +9,7 @@ use Rattle.markdown_base.specs.Event.{EventView, TagView, end, start, tag_end, t
 use Rattle.markdown_base.specs.Event.{table_head, table_row}
 use Rattle.markdown_base.specs.declared.tag.TagEnd.{TagEnd}
 use Rattle.markdown_base.specs.declared.tag.TagEnd.TheVariants as closes
+use Rattle.markdown_base.proofs.BoolLemmas.{by_test}
 use Rattle.markdown_event_laws.specs.NestedEvents.{AreNested, IsAwaited, NestFrom, awaited_after, each_passes}
 use Rattle.markdown_event_laws.specs.NestedEvents.{ends_list, ends_cells, ends_table, ends_rows_or_cells}
 use Rattle.markdown_event_laws.specs.NestedEvents.{headings_are_apart, items_are_in_lists, keep_tables_whole}
@@ -26,11 +27,6 @@ module _ (limit : ℕ) where
   shallow_from within depth [] = []
   shallow_from within depth (e ∷ events) = shallow limit depth (uncommented within e)
       ∷ shallow_from (comment_after e within) (depth_after limit e depth) events
-
--- what holds where a test passes and where it fails, holds
-pub by_test : {P : Type 0} (b : Bool) → (b ≡ true → P) → (b ≡ false → P) → P
-by_test true p q = p refl
-by_test false p q = q refl
 
 -- Of the Ends that are awaited, the inner are those of Starts that are left out, and the outer of those that stayed.
 abbrev depth_of : (inner outer : List TagEnd) → Depth

@@ -1,19 +1,15 @@
 -- In safe HTML there is a `<` only where a tag begins.
 use Rattle.std.proofs.Common.{◌≡◌, ◌++◌, ◌==◌, ◌&&◌, ◌||◌, ℕ, Bool, true, false, not, List, [], ◌∷◌, map, codes}
-use Rattle.std.proofs.Common.{if◌then◌else◌}
-use Rattle.std.proofs.Common.{refl, sym, ap, ◌∙◌, append-nil}
+use Rattle.std.proofs.Common.{if◌then◌else◌, refl, sym, ap, ◌∙◌, append-nil}
 use Rattle.std.specs.List.{flat_map, list_all, list_any}
 use Rattle.std.specs.Str.{bytes_eq}
 use Rattle.std.specs.Cmp.Lexicographic.{bytes_decides}
 use Rattle.std.proofs.lemmas.List.Folds.{list_all-append}
 use Rattle.std.proofs.lemmas.Bool.{and_parts}
 use Rattle.markdown_safe.specs.SafeHtml.{Character, by_itself, by_reference, character_bytes, meant, is_in_text}
-use Rattle.markdown_safe.specs.SafeHtml.{is_in_value, Attribute}
-use Rattle.markdown_safe.specs.SafeHtml.{HtmlPiece, character, start_tag, end_tag, void_tag, bytes_of_piece}
-use Rattle.markdown_safe.specs.SafeHtml.{is_safe_piece}
-use Rattle.markdown_safe.specs.SafeHtml.{attribute_bytes, is_safe_attribute, is_listed, has_only, has_each}
-use Rattle.markdown_safe.specs.SafeHtml.{element_rules, void_rules}
-use Rattle.markdown_safe.specs.SafeHtml.{value_rules}
+use Rattle.markdown_safe.specs.SafeHtml.{is_in_value, Attribute, HtmlPiece, character, start_tag, end_tag, void_tag}
+use Rattle.markdown_safe.specs.SafeHtml.{bytes_of_piece, is_safe_piece, attribute_bytes, is_safe_attribute, is_listed}
+use Rattle.markdown_safe.specs.SafeHtml.{has_only, has_each, element_rules, void_rules, value_rules}
 use Rattle.markdown_safe.specs.TagStarts.{IsTag, BeginsTag, EachLessThanBeginsATag}
 use Rattle.markdown_safe.proofs.SafeHtmlLemmas.{safe_both, safe_pieces}
 

@@ -1,7 +1,6 @@
 -- The bytes of a URL before its first colon, byte by byte.
-use Rattle.std.proofs.Common.{◌≡◌, ◌≢◌, ◌<◌, ◌≤◌, ◌+◌, ◌++◌, ℕ, true, false, List, [], ◌∷◌, length, get_or}
-use Rattle.std.proofs.Common.{refl, sym, ap, ◌∙◌, append_assoc, add-one, arith, drop-cons, Option, Some, None, subst}
-use Rattle.std.proofs.Common.{take}
+use Rattle.std.proofs.Common.{◌≡◌, ◌≢◌, ◌<◌, ◌≤◌, ◌+◌, ◌++◌, ℕ, true, false, List, [], ◌∷◌, length, get_or, refl, sym}
+use Rattle.std.proofs.Common.{ap, ◌∙◌, append_assoc, arith, Option, Some, None, subst, take}
 use Rattle.std.proofs.Math.ListN.{drop}
 use Rattle.std.specs.Option.{option_map}
 use Rattle.std.proofs.lemmas.Bool.{ne_eqb}
@@ -12,6 +11,7 @@ use Rattle.std.proofs.lemmas.List.Sums.{position_or_len_is}
 use Rattle.markdown_safe.specs.SafeEvents.{safe_info}
 use Rattle.markdown_out.specs.TagHtml.{may_be_in_scheme}
 use Rattle.markdown_safe.specs.SafeUrl.{before_colon, is_dropped_byte}
+use Rattle.markdown_base.proofs.ListLemmas.{bytes_from}
 
 -- the bytes found so far, before the rest of a scheme
 abbrev pub onto : List ℕ → Option (List ℕ) → Option (List ℕ)
@@ -26,10 +26,6 @@ onto-more : (found : List ℕ) (b : ℕ) (o : Option (List ℕ))
 onto-more found b None = refl
 onto-more found b (Some s) = ap Some (sym (append_assoc found (b ∷ []) s))
 
--- the bytes from a place on
-from : (url : List ℕ) (i : ℕ) → i < length url → drop i url ≡ get_or url i 0 ∷ drop (i + 1) url
-from url i h = rw (add-one, drop-cons url i 0) refl
-
 above : (b : ℕ) → 33 ≤ b → is_dropped_byte b ≡ false
 above b h = grind (arith, nat_tests)
 
@@ -39,7 +35,7 @@ below b h = grind (arith, nat_tests)
 -- a byte that is dropped
 pub passed_over : (url found : List ℕ) (i : ℕ) → i < length url → get_or url i 0 < 33
     → onto found (before_colon (drop i url)) ≡ onto found (before_colon (drop (i + 1) url))
-passed_over url found i h l = ap (λ u. onto found (before_colon u)) (from url i h)
+passed_over url found i h l = ap (λ u. onto found (before_colon u)) (bytes_from url i h)
     ∙ ap (onto found) (skip (get_or url i 0) (drop (i + 1) url) l)
   where
     skip : (b : ℕ) (rest : List ℕ) → b < 33 → before_colon (b ∷ rest) ≡ before_colon rest
@@ -48,14 +44,14 @@ passed_over url found i h l = ap (λ u. onto found (before_colon u)) (from url i
 -- a colon
 pub at_colon : (url found : List ℕ) (i : ℕ) → i < length url → get_or url i 0 ≡ 58
     → onto found (before_colon (drop i url)) ≡ Some (found ++ [])
-at_colon url found i h e = ap (λ u. onto found (before_colon u)) (from url i h)
+at_colon url found i h e = ap (λ u. onto found (before_colon u)) (bytes_from url i h)
     ∙ ap (λ b. onto found (before_colon (b ∷ drop (i + 1) url))) e
 
 -- a byte of a scheme
 pub one_more : (url found : List ℕ) (i : ℕ) → i < length url → 33 ≤ get_or url i 0 → get_or url i 0 ≢ 58
     → may_be_in_scheme (get_or url i 0) ≡ true
     → onto found (before_colon (drop i url)) ≡ onto (found ++ get_or url i 0 ∷ []) (before_colon (drop (i + 1) url))
-one_more url found i h l n s = ap (λ u. onto found (before_colon u)) (from url i h)
+one_more url found i h l n s = ap (λ u. onto found (before_colon u)) (bytes_from url i h)
     ∙ (ap (onto found) (longer (get_or url i 0) (drop (i + 1) url) l n s)
     ∙ onto-more found (get_or url i 0) (before_colon (drop (i + 1) url)))
   where
@@ -67,7 +63,7 @@ one_more url found i h l n s = ap (λ u. onto found (before_colon u)) (from url 
 pub no_scheme : (url found : List ℕ) (i : ℕ) → i < length url → 33 ≤ get_or url i 0 → get_or url i 0 ≢ 58
     → may_be_in_scheme (get_or url i 0) ≡ false
     → onto found (before_colon (drop i url)) ≡ None
-no_scheme url found i h l n s = ap (λ u. onto found (before_colon u)) (from url i h)
+no_scheme url found i h l n s = ap (λ u. onto found (before_colon u)) (bytes_from url i h)
     ∙ ap (onto found) (none (get_or url i 0) (drop (i + 1) url) l n s)
   where
     none : (b : ℕ) (rest : List ℕ) → 33 ≤ b → b ≢ 58 → may_be_in_scheme b ≡ false → before_colon (b ∷ rest) ≡ None

@@ -1,7 +1,6 @@
 -- Where a text may be cut: before and after an ASCII byte of what follows a byte.
 use Rattle.std.proofs.Common.{◌≡◌, suc, zero, [], ◌∷◌, Bool, true, ◌&&◌, ℕ, ◌+◌, ◌<◌, ◌≤◌, List, length, get_or, take}
-use Rattle.std.proofs.Common.{drop, arith}
-use Rattle.std.proofs.Common.{length-drop}
+use Rattle.std.proofs.Common.{drop, arith, length-drop}
 use Rattle.std.specs.Str.{IsUtf8, IsCharBoundary}
 use Rattle.std.proofs.lemmas.List.{get_or-drop, get_or-take, length-take}
 use Rattle.std.proofs.lemmas.Str.{IsCharBoundary-before_ascii, IsCharBoundary-after_ascii, IsCharBoundary-from_take}
@@ -51,7 +50,7 @@ first_is_ascii x rest all = grind (arith, nat_tests)
 rest_is_ascii : (x : ℕ) (rest : Bool) → (is_ascii x && rest) ≡ true → rest ≡ true
 rest_is_ascii x rest all = grind (arith, nat_tests)
 
-ascii_at : (xs : List ℕ) → list_all is_ascii xs ≡ true → (i : ℕ) → get_or xs i 0 < 128
+pub ascii_at : (xs : List ℕ) → list_all is_ascii xs ≡ true → (i : ℕ) → get_or xs i 0 < 128
 ascii_at [] all i = omega arith
 ascii_at (x ∷ xs) all zero = first_is_ascii x (list_all is_ascii xs) all
 ascii_at (x ∷ xs) all (suc i) = ascii_at xs (rest_is_ascii x (list_all is_ascii xs) all) i

@@ -1,13 +1,12 @@
 -- What a reader of a line reads of a container's part.
-use Rattle.std.proofs.Common.{◌≡◌, ℕ, ◌-◌, ◌+◌, ◌<◌, List, [], ◌∷◌, Bool, true, false, Option, Some, None, ◌==◌, ◌||◌}
-use Rattle.std.proofs.Common.{◌&&◌, nat_le, nat_lt, if◌then◌else◌, refl, sym, ap, ◌∙◌, arith, codes, ⊎_elim}
-use Rattle.std.proofs.lemmas.Bool.{cases_Bool}
+use Rattle.std.proofs.Common.{◌≡◌, ℕ, ◌-◌, ◌+◌, ◌<◌, List, [], ◌∷◌, Bool, true, false, Some, None, ◌==◌, ◌||◌, ◌&&◌}
+use Rattle.std.proofs.Common.{nat_le, nat_lt, if◌then◌else◌, refl, sym, ap, ◌∙◌, arith, codes, ⊎_elim}
+use Rattle.std.proofs.lemmas.Bool.{lt-ltb, cases_Bool}
 use Rattle.std.proofs.lemmas.Bool.Decides.{nat_tests}
 use Rattle.markdown_scan.specs.Beginnings.{begins_with}
 use Rattle.markdown_scan.specs.ContainerParts.{past_quote}
 use Rattle.markdown_scan.specs.LineStart.{LineLeft, Space, begins_marker, column_after, leading_space, past_marker}
 use Rattle.markdown_scan.specs.LineStart.{space_from, space_width}
-use Rattle.markdown_scan.proofs.LineStartLemmas.{lt_test_true}
 
 -- where fewer columns were read than asked for, none is owed
 from_owes_none : (n scanned column : ℕ) (bytes : List ℕ) → (space_from n scanned column bytes).columns < n
@@ -55,7 +54,7 @@ quote_part left before after columns there read is few marker taken =
     let less : (leading_space 4 left).columns < 4 = omega (arith, read, few) in
     let begins : begins_with (codes ">") (leading_space 4 left).after.bytes ≡ there =
     marker_is (leading_space 4 left).after (owes_none 4 left less) ∙ (ap begins_marker (sym is) ∙ sym marker) in
-    rw (lt_test_true (leading_space 4 left).columns 4 less, begins) (by_marker there (taken ∙ chosen there))
+    rw (lt-ltb (leading_space 4 left).columns 4 less, begins) (by_marker there (taken ∙ chosen there))
   where
     chosen : (there : Bool) → (if there then past_marker before else before)
         ≡ (if there then past_marker (leading_space 4 left).after else (leading_space 4 left).after)

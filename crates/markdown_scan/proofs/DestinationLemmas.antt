@@ -1,8 +1,7 @@
 -- Steps of the scanner of a destination: the length of the whole is the number of bytes before an offset and the length
 -- of the rest.
 use Rattle.std.proofs.Common.{◌≡◌, ℕ, zero, suc, ◌+◌, ◌<◌, ◌==◌, ◌||◌, List, ◌∷◌, Bool, true, false, Option, Some, None}
-use Rattle.std.proofs.Common.{drop, take}
-use Rattle.std.proofs.Common.{length, get_or, refl, ◌∙◌, sym, ap, arith}
+use Rattle.std.proofs.Common.{drop, take, length, get_or, refl, ◌∙◌, sym, ap, arith}
 use Rattle.std.specs.Prelude.{slice_index}
 use Rattle.std.specs.Option.{option_map}
 use Rattle.std.proofs.lemmas.List.{drop-drop, drop_more}

@@ -1,7 +1,6 @@
 -- The number of a numeric reference: it stays small while its digits are read.
 use Rattle.std.proofs.Common.{◌≡◌, ℕ, ◌+◌, ◌*◌, ◌^◌, ◌<◌, ◌≤◌, true, List, Some, length, get_or, take, drop, nat_le}
-use Rattle.std.proofs.Common.{codes, arith, lit<}
-use Rattle.std.proofs.Common.{add-one, ap, ◌∙◌, refl}
+use Rattle.std.proofs.Common.{codes, arith, lit<, add-one, ap, ◌∙◌, refl}
 use Rattle.std.proofs.Math.Nat.{mul-le-mul_right, pow-le-pow_right, pow-suc}
 use Rattle.std.proofs.lemmas.Bool.Decides.{nat_tests}
 use Rattle.std.proofs.lemmas.List.Sums.{fold_more}

@@ -1,19 +1,17 @@
 -- Steps of the scans of a label.
 use Rattle.std.proofs.Common.{◌≡◌, ℕ, suc, zero, ◌+◌, ◌≤◌, ◌<◌, List, [], ◌∷◌, ◌++◌, Bool, true, false, ◌&&◌, ◌||◌}
-use Rattle.std.proofs.Common.{Option, Some, None}
-use Rattle.std.proofs.Common.{if◌then◌else◌, length, drop, refl, sym, ◌∙◌, ap, arith, append_assoc, count_by, nat_le}
-use Rattle.std.proofs.Common.{◌==◌, is_none}
-use Rattle.std.proofs.Common.{unwrap_or, IfSome}
+use Rattle.std.proofs.Common.{Option, Some, None, if◌then◌else◌, length, drop, refl, sym, ◌∙◌, ap, arith, append_assoc}
+use Rattle.std.proofs.Common.{count_by, nat_le, ◌==◌, is_none, unwrap_or, IfSome}
 use Rattle.std.specs.List.{list_any}
 use Rattle.std.proofs.lemmas.List.Sums.{sum_by-append}
 use Rattle.std.proofs.lemmas.List.Folds.{list_any-append}
 use Rattle.std.proofs.lemmas.Bool.{cond_both}
 use Rattle.std.proofs.lemmas.Bool.Decides.{nat_tests}
+use Rattle.std.proofs.Math.Bool.{or_assoc}
 use Rattle.markdown_base.specs.Bytes.{pipe, backslash}
 use Rattle.markdown_scan.specs.Backslash.{begins_pipe, escapes_pipe, is_bare}
 use Rattle.markdown_scan.specs.Label.{LabelByte, kept, refused, label_bytes, body, put_before, shown, with_shown}
-use Rattle.markdown_scan.specs.Label.{begins_character}
-use Rattle.markdown_scan.specs.Label.{is_not_white_space}
+use Rattle.markdown_scan.specs.Label.{begins_character, is_not_white_space}
 use Rattle.markdown_scan.specs.LinePrefix.{prefix_after}
 use Rattle.markdown_scan.specs.LabelScan.{byte_shown, end_after, found_in}
 
@@ -108,10 +106,6 @@ found_step skipped in_table escaped b tail n no_end no_start after within =
     ∙ shown_before in_table (1 + n) b rest (body later (label_bytes skipped 0 rest))
     (begins_pipe_alike skipped later rest)
 
-or_assoc : (a b c : Bool) → (a || (b || c)) ≡ ((a || b) || c)
-or_assoc true b c = refl
-or_assoc false b c = refl
-
 -- the end of a label, if a text precedes what was found
 pub end_of_put : (at characters n : ℕ) (solid : Bool) (text : List ℕ) (o : Option (ℕ × List ℕ))
     → end_after at characters solid (put_before n text o)
@@ -124,7 +118,7 @@ end_of_put at characters n solid text (Some f) =
     ≡ characters + count_by begins_character text
     + count_by begins_character f.1 = omega arith in
     let any = list_any-append is_not_white_space text f.1 in
-    rw (place, counted, sum, any, or_assoc solid (list_any is_not_white_space text) (list_any is_not_white_space f.1))
+    rw (place, counted, sum, any, ← or_assoc solid (list_any is_not_white_space text) (list_any is_not_white_space f.1))
 
 -- the invariant of the scan for the end, after a byte
 pub end_step : (whole : Option ℕ) (skipped : List ℕ → Option ℕ) (in_table escaped solid : Bool) (at characters b : ℕ)

@@ -1,8 +1,7 @@
 -- Steps of the reader of a label's text.
 use Rattle.std.proofs.Common.{◌≡◌, ◌≢◌, ℕ, ◌+◌, ◌≤◌, ◌<◌, List, [], ◌++◌, Bool, true, false, Option, Some, None, length}
-use Rattle.std.proofs.Common.{take, drop, refl}
-use Rattle.std.proofs.Common.{sym, ◌∙◌, ap, arith, append_assoc, length-append, length-drop, String, Global}
-use Rattle.std.proofs.Common.{string_bytes}
+use Rattle.std.proofs.Common.{take, drop, refl, sym, ◌∙◌, ap, arith, append_assoc, length-append, length-drop, String}
+use Rattle.std.proofs.Common.{Global, string_bytes}
 use Rattle.std.specs.Prelude.{encode_utf8, Result, Ok, Err, OnErr, IfSome, ◌||◌}
 use Rattle.std.specs.Option.{option_map}
 use Rattle.std.proofs.lemmas.Option.{none-some, same_Some}
@@ -99,12 +98,6 @@ pub borrowed_if_same : (own : Option (String Global)) (same source text : List �
 borrowed_if_same None same source text B differs borrowed is n e = borrowed refl
 borrowed_if_same (Some x) same source text B differs borrowed is n e =
     absurd (differs x refl [] n (append-nil (string_bytes x) ∙ sym is ∙ e))
-
--- a consequence of two facts about an optional value
-pub if_both : {X : Type 0} (r : Option X) (P Q R : X → Type 0) → IfSome r P → IfSome r Q → ((x : X) → P x → Q x → R x)
-    → IfSome r R
-if_both None P Q R p q both = tt
-if_both (Some x) P Q R p q both = both x p q
 
 -- if a disjunction is false, both sides are
 pub neither : (a b : Bool) → (a || b) ≡ false → (a ≡ false) × (b ≡ false)

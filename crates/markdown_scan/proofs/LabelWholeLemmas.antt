@@ -1,8 +1,7 @@
 -- Where a label's text is its source as it is.
-use Rattle.std.proofs.Common.{◌≡◌, ℕ, suc, ◌+◌, List, [], ◌∷◌, ◌++◌, Bool, true, false, not, ◌&&◌, ◌||◌}
-use Rattle.std.proofs.Common.{Option, Some, None, IfSome, take, inl, inr, refl, sym, ◌∙◌, ap, arith, ◌==◌, is_none}
-use Rattle.std.proofs.Common.{unwrap_or, if◌then◌else◌, nat_le, count_by, length-take, take_all}
-use Rattle.std.proofs.Common.{option_and_then}
+use Rattle.std.proofs.Common.{◌≡◌, ℕ, suc, ◌+◌, List, [], ◌∷◌, ◌++◌, Bool, true, false, not, ◌&&◌, ◌||◌, Option, Some}
+use Rattle.std.proofs.Common.{None, IfSome, take, inl, inr, refl, sym, ◌∙◌, ap, arith, ◌==◌, is_none, unwrap_or}
+use Rattle.std.proofs.Common.{if◌then◌else◌, nat_le, count_by, length-take, take_all, option_and_then}
 use Rattle.std.specs.List.{list_any}
 use Rattle.std.specs.Option.{option_map}
 use Rattle.std.proofs.lemmas.Option.{none-some, same_Some}

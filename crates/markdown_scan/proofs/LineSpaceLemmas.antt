@@ -2,11 +2,10 @@
 use Rattle.std.proofs.Common.{◌≡◌, inl, inr, ℕ, zero, suc, ◌+◌, ◌-◌, ◌≤◌, ◌<◌, List, [], ◌∷◌, true, ◌==◌, refl, sym}
 use Rattle.std.proofs.Common.{◌∙◌, ap, arith}
 use Rattle.std.proofs.lemmas.Bool.Decides.{nat_tests, leb_tells}
+use Rattle.std.proofs.lemmas.Bool.{lt-ltb, le-ltb, lt-leb, le-leb}
 use Rattle.markdown_scan.specs.LineStart.{LineLeft, Space, space_width, column_after, wider, no_space, space_from}
 use Rattle.markdown_scan.specs.LineStart.{leading_space}
-use Rattle.markdown_scan.proofs.LineStartLemmas.{eq_test_false, le_test_false, le_test_true, lt_test_true}
-use Rattle.markdown_scan.proofs.LineStartLemmas.{lt_test_false, no_space_from}
-use Rattle.markdown_scan.proofs.LineStartLemmas.{space_unowed, wider_none, wider_twice}
+use Rattle.markdown_scan.proofs.LineStartLemmas.{eq_test_false, no_space_from, space_unowed, wider_none, wider_twice}
 
 -- n columns of those that are owed, and m more
 owed_more : (n m : ℕ) (left : LineLeft) → n ≤ left.owed
@@ -15,8 +14,8 @@ owed_more n m left some = elim (leb_tells m (left.owed - n)) [
   | inl fits ↦
       let same : left.owed - (n + m) ≡ left.owed - n - m = omega arith in
       rw (
-        le_test_true (n + m) left.owed (omega (arith, some, fits.1)),
-        le_test_true m (left.owed - n) fits.1,
+        le-leb (n + m) left.owed (omega (arith, some, fits.1)),
+        le-leb m (left.owed - n) fits.1,
         same,
       ) refl
   | inr past ↦
@@ -24,8 +23,8 @@ owed_more n m left some = elim (leb_tells m (left.owed - n)) [
       let sum : n + (left.owed - n) ≡ left.owed = omega (arith, some) in
       let later = space_from (m - (left.owed - n)) left.scanned left.column left.bytes in
       rw (
-        le_test_false (n + m) left.owed (omega (arith, some, past.1)),
-        le_test_false m (left.owed - n) past.1,
+        lt-leb (n + m) left.owed (omega (arith, some, past.1)),
+        lt-leb m (left.owed - n) past.1,
         rest,
       )
       (sym (wider_twice n (left.owed - n) later ∙ ap (λ k. wider k later) sum))
@@ -38,13 +37,13 @@ space_twice : (n m : ℕ) (left : LineLeft)
     (leading_space j (space_from i left.scanned left.column left.bytes).after))
     → leading_space (n + m) left ≡ wider (leading_space n left).columns (leading_space m (leading_space n left).after)
 space_twice n m left later = elim (leb_tells n left.owed) [
-  | inl fits ↦ rw (le_test_true n left.owed fits.1) (owed_more n m left fits.1)
+  | inl fits ↦ rw (le-leb n left.owed fits.1) (owed_more n m left fits.1)
   | inr past ↦
       let rest : n + m - left.owed ≡ n - left.owed + m = omega (arith, past.1) in
       let first = space_from (n - left.owed) left.scanned left.column left.bytes in
       rw (
-        le_test_false n left.owed past.1,
-        le_test_false (n + m) left.owed (omega (arith, past.1)),
+        lt-leb n left.owed past.1,
+        lt-leb (n + m) left.owed (omega (arith, past.1)),
         rest,
       )
       (ap (wider left.owed) (later (n - left.owed) m)
@@ -69,20 +68,20 @@ byte_owed k scanned column b bytes some white =
             let used : w - k ≡ 0 = omega (arith, fits.1) in
             let sum : w + 0 ≡ k = omega (arith, fits.1, all.1) in
             rw (
-              lt_test_false k w fits.1,
-              le_test_true k w all.1,
+              le-ltb k w fits.1,
+              le-leb k w all.1,
               none,
               used,
               no_space_from (scanned + 1) (column_after column b) bytes,
               sum,
             ) refl
-        | inr past ↦ rw (lt_test_false k w fits.1, le_test_false k w past.1) refl
+        | inr past ↦ rw (le-ltb k w fits.1, lt-leb k w past.1) refl
       ]
-      | inr cut ↦ rw (lt_test_true k w cut.1, le_test_true k w (omega (arith, cut.1))) refl
+      | inr cut ↦ rw (lt-ltb k w cut.1, le-leb k w (omega (arith, cut.1))) refl
     ])
 
 -- no space comes next
-none_from : (k scanned column b : ℕ) (bytes : List ℕ) → (space_width column b == 0) ≡ true
+pub none_from : (k scanned column b : ℕ) (bytes : List ℕ) → (space_width column b == 0) ≡ true
     → space_from k scanned column (b ∷ bytes)
     ≡ no_space (record { scanned = scanned; owed = 0; column = column; bytes = b ∷ bytes })
 none_from zero scanned column b bytes e = refl

@@ -1,26 +1,14 @@
 -- Steps of the reader of a line's white space.
-use Rattle.std.proofs.Common.{◌≡◌, inl, inr, ℕ, zero, suc, ◌+◌, ◌-◌, ◌≤◌, ◌<◌, min, List, [], ◌∷◌, true, false, ◌==◌}
-use Rattle.std.proofs.Common.{nat_le, nat_lt}
-use Rattle.std.proofs.Common.{if◌then◌else◌, refl, sym, ◌∙◌, ap, arith}
+use Rattle.std.proofs.Common.{◌≡◌, inl, inr, ℕ, zero, suc, ◌+◌, ◌-◌, ◌<◌, min, List, [], ◌∷◌, false, ◌==◌, nat_le}
+use Rattle.std.proofs.Common.{nat_lt, if◌then◌else◌, refl, sym, ◌∙◌, ap, arith}
 use Rattle.std.proofs.lemmas.Bool.Decides.{nat_tests, leb_tells, eqb_tells}
+use Rattle.std.proofs.lemmas.Bool.{lt-ltb, le-ltb, lt-leb, le-leb}
 use Rattle.markdown_scan.specs.LineStart.{LineLeft, Space, space_width, column_after, wider, no_space, space_from}
 use Rattle.markdown_scan.specs.LineStart.{leading_space}
 use Rattle.markdown_scan.specs.LineSteps.{width_of, width_next, past_first, past_white}
 
 pub eq_test_false : (m : ℕ) → 0 < m → (m == 0) ≡ false
 eq_test_false m some = grind (arith, nat_tests)
-
-pub le_test_false : (m n : ℕ) → n < m → nat_le m n ≡ false
-le_test_false m n less = grind (arith, nat_tests)
-
-pub le_test_true : (m n : ℕ) → m ≤ n → nat_le m n ≡ true
-le_test_true m n less = grind (arith, nat_tests)
-
-pub lt_test_true : (m n : ℕ) → m < n → nat_lt m n ≡ true
-lt_test_true m n less = grind (arith, nat_tests)
-
-pub lt_test_false : (m n : ℕ) → n ≤ m → nat_lt m n ≡ false
-lt_test_false m n less = grind (arith, nat_tests)
 
 pub wider_twice : (a b : ℕ) (s : Space) → wider a (wider b s) ≡ wider (a + b) s
 wider_twice a b s = let sum : a + (b + s.columns) ≡ a + b + s.columns = omega arith
@@ -38,7 +26,7 @@ no_space_from scanned column (b ∷ bytes) = refl
 -- no columns of space
 pub space_zero : (left : LineLeft) → leading_space 0 left ≡ no_space left
 space_zero left = let same : left.owed - 0 ≡ left.owed = omega arith in
-    rw (le_test_true 0 left.owed (omega arith)) (ap (λ (n : ℕ). no_space (record left { owed = n })) same)
+    rw (le-leb 0 left.owed (omega arith)) (ap (λ (n : ℕ). no_space (record left { owed = n })) same)
 
 -- where no column is owed
 pub space_unowed : (m scanned column : ℕ) (bytes : List ℕ)
@@ -49,7 +37,7 @@ space_unowed zero scanned column bytes = space_zero
     ∙ sym (no_space_from scanned column bytes)
 space_unowed (suc m) scanned column bytes =
     let same : suc m - 0 ≡ suc m = omega arith in
-    let more : nat_le (suc m) 0 ≡ false = le_test_false (suc m) 0 (omega arith) in
+    let more : nat_le (suc m) 0 ≡ false = lt-leb (suc m) 0 (omega arith) in
     rw (more, same) (wider_none (space_from (suc m) scanned column bytes))
 
 -- white space of w columns comes next, of which at most m are used
@@ -63,13 +51,13 @@ used_of m w scanned column bytes = elim (leb_tells w m) [
   | inl fits ↦
       let used : min m w ≡ w = omega (arith, fits.1) in
       let none : w - m ≡ 0 = omega (arith, fits.1) in
-      rw (lt_test_false m w fits.1, used, none) (ap (wider w) (sym (space_unowed (m - w) scanned column bytes)))
+      rw (le-ltb m w fits.1, used, none) (ap (wider w) (sym (space_unowed (m - w) scanned column bytes)))
   | inr cut ↦
       let used : min m w ≡ m = omega (arith, cut.1) in
       let none : m - m ≡ 0 = omega arith in
       let same : m + 0 ≡ m = omega arith in
       let left : LineLeft = record { scanned = scanned; owed = w - m; column = column; bytes = bytes } in
-      rw (lt_test_true m w cut.1, used, none, space_zero left, same)
+      rw (lt-ltb m w cut.1, used, none, space_zero left, same)
 ]
 
 -- a space or a tab comes next

@@ -1,9 +1,9 @@
 -- What escapes and entities are like: where they begin and end, and that they have more ASCII bytes than what is put
 -- for them.
 use Rattle.std.proofs.Common.{◌≡◌, ℕ, suc, zero, ◌+◌, ◌-◌, ◌<◌, ◌≤◌, Bool, true, ◌&&◌, ◌||◌, ◌==◌, false, List, [], ◌∷◌}
-use Rattle.std.proofs.Common.{◌++◌, Option, Some, None, ◌⊎◌, inl, inr, ⊎_elim}
-use Rattle.std.proofs.Common.{IfSome, length, get_or, take, drop, nat_le, nat_lt, codes, encode_utf8, encode_utf8_all}
-use Rattle.std.proofs.Common.{if◌then◌else◌, option_map, append-nil, refl, sym, ap, ◌∙◌, lit<, lit≤, arith}
+use Rattle.std.proofs.Common.{◌++◌, Option, Some, None, ◌⊎◌, inl, inr, ⊎_elim, IfSome, length, get_or, take, drop}
+use Rattle.std.proofs.Common.{nat_le, nat_lt, codes, encode_utf8, encode_utf8_all, if◌then◌else◌, option_map}
+use Rattle.std.proofs.Common.{append-nil, refl, sym, ap, ◌∙◌, lit<, lit≤, arith}
 use Rattle.std.proofs.Math.Seq.{take-append_seam}
 use Rattle.std.proofs.lemmas.Bool.{cond_both, and_parts, cases_lt, ltb-true}
 use Rattle.std.proofs.lemmas.Bool.Decides.{nat_tests}
@@ -12,6 +12,7 @@ use Rattle.std.proofs.lemmas.Str.{encode_ascii, inside_one}
 use Rattle.std.specs.Char.{is_ascii, is_ascii_punctuation}
 use Rattle.std.specs.Option.{option_or}
 use Rattle.markdown_base.specs.Bytes.{backslash, pipe}
+use Rattle.markdown_base.proofs.OptionLemmas.{if_or}
 use Rattle.markdown_entities.specs.EntityRow.{EntityRow}
 use Rattle.markdown_entities.specs.NamedEntity.{as_written, entity_rows, first_written, in_utf8}
 use Rattle.markdown_entities.proofs.NamedEntityLemmas.{count_ascii, IsSmallRow, none_written, nothing_written}
@@ -231,14 +232,10 @@ if_more : {A : Type 0} (P Q : A → Type 0) (found : Option A) → ((x : A) → 
 if_more P Q None more h = tt
 if_more P Q (Some x) more h = more x h
 
-if_either : {A : Type 0} (P : A → Type 0) (x y : Option A) → IfSome x P → IfSome y P → IfSome (option_or x y) P
-if_either P None y p q = q
-if_either P (Some r) y p q = p
-
 -- what an entity of these bytes is like
 pub IsEntity-entity : (names : EntityNames) (bytes : List ℕ) → IfSome (entity names bytes) (λ r. IsEntity bytes r.0)
 IsEntity-entity names bytes =
-    if_either (λ r. IsEntity bytes r.0) (entity_by_name names bytes) (option_map with_one (numbered_entity bytes))
+    if_or (λ r. IsEntity bytes r.0) (entity_by_name names bytes) (option_map with_one (numbered_entity bytes))
     (by names) (if_mapped with_one (λ r. IsEntity bytes r.0) (numbered_entity bytes) (IsEntity-numbered bytes))
   where
     by : (names : EntityNames) → IfSome (entity_by_name names bytes) (λ r. IsEntity bytes r.0)
@@ -255,7 +252,7 @@ single bytes found h =
 
 IsReference-entity : (names : EntityNames) (bytes : List ℕ) → IfSome (entity names bytes) (IsReference bytes)
 IsReference-entity names bytes =
-    if_either (IsReference bytes) (entity_by_name names bytes) (option_map with_one (numbered_entity bytes)) (by names)
+    if_or (IsReference bytes) (entity_by_name names bytes) (option_map with_one (numbered_entity bytes)) (by names)
     (of_entity (numbered_entity bytes) (IsEntity-numbered bytes))
   where
     of_entity : (found : Option (ℕ × ℕ)) → IfSome found (λ r. IsEntity bytes r.0)
@@ -303,7 +300,7 @@ IsWritten-escape in_table bytes =
 pub IsReference-reference : (names : EntityNames) (in_table : Bool) (bytes : List ℕ)
     → IfSome (escape_or_entity names in_table bytes) (IsReference bytes)
 IsReference-reference names in_table bytes =
-    if_either (IsReference bytes) (option_map with_one (escape in_table bytes)) (entity names bytes)
+    if_or (IsReference bytes) (option_map with_one (escape in_table bytes)) (entity names bytes)
     (single bytes (escape in_table bytes) (IsWritten-escape in_table bytes)) (IsReference-entity names bytes)
 
 pub reference_is : (names : EntityNames) (in_table : Bool) (bytes : List ℕ) (r : ℕ × List ℕ)

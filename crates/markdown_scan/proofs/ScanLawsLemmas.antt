@@ -1,9 +1,6 @@
 -- Lemmas of the laws of what is scanned.
-use Rattle.std.proofs.Common.{◌++◌, zero, ◌<◌, ◌≡◌}
-use Rattle.std.proofs.Common.{suc, arith, ℕ, ◌+◌}
-use Rattle.std.proofs.Common.{◌==◌, not, List, [], ◌∷◌, Bool, true, false, Option, Some, None, if◌then◌else◌, take}
-use Rattle.std.proofs.Common.{length}
-use Rattle.std.proofs.Common.{refl, ap, ◌∙◌, option_and_then}
+use Rattle.std.proofs.Common.{◌++◌, zero, ◌<◌, ◌≡◌, suc, arith, ℕ, ◌+◌, ◌==◌, not, List, [], ◌∷◌, Bool, true, false}
+use Rattle.std.proofs.Common.{Option, Some, None, if◌then◌else◌, take, length, refl, ap, ◌∙◌, option_and_then}
 use Rattle.std.proofs.lemmas.Bool.{and_parts, cond_both}
 use Rattle.std.proofs.lemmas.Bool.Decides.{nat_tests}
 use Rattle.std.proofs.lemmas.Str.{encode_ascii}
@@ -22,8 +19,7 @@ use Rattle.markdown_scan.specs.Backslash.{is_bare}
 use Rattle.markdown_scan.specs.Destination.{bare_destination, bare_length, end_of_bare, is_past_bare, is_too_deep}
 use Rattle.markdown_scan.specs.Destination.{open_after}
 use Rattle.markdown_scan.specs.Label.{LabelByte, body, dropped, fits_label, kept, label_body, label_bytes, put_before}
-use Rattle.markdown_scan.specs.Label.{refused, shown}
-use Rattle.markdown_scan.specs.Label.{with_shown}
+use Rattle.markdown_scan.specs.Label.{refused, shown, with_shown}
 use Rattle.markdown_scan.proofs.LabelTextLemmas.{neither}
 use Rattle.markdown_scan.proofs.LineStartLemmas.{no_space_from}
 use Rattle.markdown_scan.specs.ScanLaws.{holds_bare_bracket, is_in_bare, is_plain_byte, TabGoesToTheNextStop}

@@ -1,8 +1,7 @@
 -- A text from which prefixes of lines were removed is a text.
 use Rattle.std.proofs.Common.{◌≡◌, ℕ, suc, zero, ◌+◌, ◌-◌, ◌<◌, ◌≤◌, Bool, true, false, ◌&&◌, ◌==◌, List, [], ◌∷◌, ◌++◌}
-use Rattle.std.proofs.Common.{Option, Some, None}
-use Rattle.std.proofs.Common.{length, get_or, take, drop, arith, refl, ap, IsUtf8, IsCharBoundary, encode_utf8, inl}
-use Rattle.std.proofs.Common.{inr, subst, sym, ◌∙◌}
+use Rattle.std.proofs.Common.{Option, Some, None, length, get_or, take, drop, arith, refl, ap, IsUtf8, IsCharBoundary}
+use Rattle.std.proofs.Common.{encode_utf8, inl, inr, subst, sym, ◌∙◌}
 use Rattle.std.specs.Prelude.{codes, if◌then◌else◌, nat_le, option_and_then}
 use Rattle.std.specs.Option.{option_map}
 use Rattle.std.specs.List.{list_all}
@@ -12,8 +11,8 @@ use Rattle.std.proofs.lemmas.List.{get_or-drop, length-drop}
 use Rattle.std.proofs.lemmas.Option.{same_Some}
 use Rattle.std.proofs.lemmas.Bool.Decides.{nat_tests, leb_tells}
 use Rattle.std.proofs.lemmas.Str.{encode_ascii, IsUtf8-take, IsUtf8-drop, IsUtf8-nil, IsCharBoundary-after_ascii}
-use Rattle.std.proofs.lemmas.Str.{char_from_byte}
-use Rattle.std.proofs.lemmas.Str.{IsCharBoundary-start}
+use Rattle.std.proofs.lemmas.Str.{char_from_byte, IsCharBoundary-start}
+use Rattle.std.proofs.lemmas.Bool.{and_parts}
 use Rattle.markdown_scan.specs.LinePrefix.{ends_line}
 use Rattle.markdown_base.specs.Bytes.{line_feed, carriage_return}
 use Rattle.markdown_scan.proofs.LabelCharacterLemmas.{IsHigh, high_encode}
@@ -42,10 +41,6 @@ SkipsAscii length_of = (line : List ℕ) → IsAsciiPrefix line (length_of line)
 text_after : (c : ℕ) (rest : List ℕ) → scalar c ≡ true → IsUtf8 rest → IsUtf8 (encode_utf8 c ++ rest)
 text_after c rest s u = (c ∷ u.0, (rw (s, u.1.0) refl, ap (λ (xs : List ℕ). encode_utf8 c ++ xs) u.1.1))
 
-both_of : (a b : Bool) → (a && b) ≡ true → (a ≡ true) × (b ≡ true)
-both_of true b e = (refl, e)
-both_of false b e = cc
-
 -- bytes that are not ASCII end no line
 high_ends_no_line : (x : ℕ) (bytes : List ℕ) → 128 ≤ x → ends_line x bytes ≡ false
 high_ends_no_line x bytes high =
@@ -63,7 +58,7 @@ high_stays length_of (x ∷ xs) rest high =
 later_prefix : (c : ℕ) (rest : List ℕ) (n : ℕ) → IsAsciiPrefix (c ∷ rest) (suc n) → IsAsciiPrefix rest n
 later_prefix c rest n prefix = record {
   within = omega (arith, prefix.within);
-  ascii = (both_of (is_ascii c) (list_all is_ascii (take n rest)) prefix.ascii).1;
+  ascii = (and_parts (is_ascii c) (list_all is_ascii (take n rest)) prefix.ascii).1;
 }
 
 -- after a byte that is ASCII
@@ -103,17 +98,17 @@ past_is_text length_of skips (c ∷ cs) s zero prefix = elim (leb_tells 128 c) [
   | inl high ↦
       let none : IsAsciiPrefix (encodes cs) 0 = record { within = omega arith; ascii = refl } in
       rw (high_stays length_of (encode_utf8 c) (encodes cs) (high_encode c high.1))
-      (text_after c (text_past (λ line. Some (length_of line)) 0 (encodes cs)) (both_of (scalar c) (scalars cs) s).0
-      (past_is_text length_of skips cs (both_of (scalar c) (scalars cs) s).1 0 none))
+      (text_after c (text_past (λ line. Some (length_of line)) 0 (encodes cs)) (and_parts (scalar c) (scalars cs) s).0
+      (past_is_text length_of skips cs (and_parts (scalar c) (scalars cs) s).1 0 none))
   | inr low ↦
       rw (encode_ascii c low.1) (after_low length_of c (encodes cs) skips
-      (λ n prefix. past_is_text length_of skips cs (both_of (scalar c) (scalars cs) s).1 n prefix)
-      (both_of (scalar c) (scalars cs) s).0
+      (λ n prefix. past_is_text length_of skips cs (and_parts (scalar c) (scalars cs) s).1 n prefix)
+      (and_parts (scalar c) (scalars cs) s).0
       low.1)
 ]
 past_is_text length_of skips (c ∷ cs) s (suc n) prefix =
     skipped_character length_of c n (encodes cs)
-    (λ n prefix. past_is_text length_of skips cs (both_of (scalar c) (scalars cs) s).1 n prefix) prefix
+    (λ n prefix. past_is_text length_of skips cs (and_parts (scalar c) (scalars cs) s).1 n prefix) prefix
 
 -- a text without the prefixes of its lines is a text
 pub joined_is_text : (length_of : List ℕ → ℕ) → SkipsAscii length_of → (source : List ℕ) → IsUtf8 source

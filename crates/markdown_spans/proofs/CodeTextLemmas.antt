@@ -1,27 +1,24 @@
 -- The text of a span, piece by piece.
 use Rattle.std.proofs.Common.{◌≡◌, ℕ, suc, zero, ◌+◌, ◌-◌, ◌<◌, ◌≤◌, Bool, true, false, not, ◌&&◌, ◌||◌, ◌==◌, List, []}
-use Rattle.std.proofs.Common.{◌∷◌, ◌++◌, Option}
-use Rattle.std.proofs.Common.{Some, None, length, get_or, take, drop, append_assoc, arith, refl, sym, ap, ◌∙◌, IsUtf8}
-use Rattle.std.proofs.Common.{IsCharBoundary}
-use Rattle.std.proofs.Common.{subst, append-nil}
+use Rattle.std.proofs.Common.{◌∷◌, ◌++◌, Option, Some, None, length, get_or, take, drop, append_assoc, arith, refl, sym}
+use Rattle.std.proofs.Common.{ap, ◌∙◌, IsUtf8, IsCharBoundary, subst, append-nil}
 use Rattle.std.specs.Prelude.{is_some}
 use Rattle.std.specs.List.{list_all}
 use Rattle.std.specs.Char.{is_ascii}
 use Rattle.std.proofs.lemmas.Bool.Decides.{nat_tests}
 use Rattle.std.proofs.lemmas.List.{get_or-take, length-drop, length-take-le, drop_more, take_more, drop-drop}
-use Rattle.std.proofs.lemmas.List.{take-append-drop, drop_all}
-use Rattle.std.proofs.lemmas.List.{take_all}
+use Rattle.std.proofs.lemmas.List.{take-append-drop, drop_all, take_all}
 use Rattle.std.proofs.Math.Seq.{take-append-add}
 use Rattle.std.proofs.lemmas.List.Folds.{list_all-append}
 use Rattle.std.proofs.lemmas.Option.{same_Some}
 use Rattle.markdown_base.specs.Bytes.{pipe, backslash, line_feed, carriage_return}
+use Rattle.markdown_base.proofs.BoolLemmas.{and_second}
 use Rattle.markdown_scan.specs.Beginnings.{begins_with}
 use Rattle.markdown_scan.specs.LineEnd.{line_ending, begins_line_feed}
-use Rattle.markdown_scan.proofs.BoundaryLemmas.{before_ascii_of_rest, after_ascii_of_rest}
+use Rattle.markdown_scan.proofs.BoundaryLemmas.{ascii_at, before_ascii_of_rest, after_ascii_of_rest}
 use Rattle.markdown_scan.proofs.BeginsWithLemmas.{begins_with-split}
 use Rattle.markdown_spans.specs.CodeText.{Piece, piece_at, begins_escaped_pipe, replaced_past, shown_ending, is_sliced}
-use Rattle.markdown_spans.specs.CodeText.{has_outer_spaces}
-use Rattle.markdown_spans.specs.CodeText.{is_space}
+use Rattle.markdown_spans.specs.CodeText.{has_outer_spaces, is_space}
 use Rattle.markdown_spans.specs.PrefixView.{length_by}
 use Rattle.markdown_spans.specs.declared.span_text.SpanKind.{SpanKind}
 use Rattle.markdown_spans.specs.declared.prefixes.ContainerPrefix.{ContainerPrefix}
@@ -90,10 +87,6 @@ pipe_is_ascii bytes e =
   where
     two : (rest : List ℕ) → IsAsciiPrefix (backslash ∷ pipe ∷ rest) 2
     two rest = record { within = omega arith; ascii = refl }
-
-and_second : (a b : Bool) → (a && b) ≡ true → b ≡ true
-and_second true b e = e
-and_second false b e = cc
 
 -- a piece takes ASCII bytes, at least one, and is a change
 pub record IsChange (in_table : Bool) (bytes : List ℕ) (p : Piece) : Type 0 where
@@ -226,14 +219,6 @@ pub sliced_end : (in_table : Bool) (text : List ℕ) (at : ℕ) → length text 
     ≡ true
 unfolding is_sliced
 sliced_end in_table text at past = rw (drop_all at text past) refl
-
-first_is_ascii : (x : ℕ) (rest : Bool) → (is_ascii x && rest) ≡ true → x < 128
-first_is_ascii x rest all = grind (arith, nat_tests)
-
-ascii_at : (xs : List ℕ) → list_all is_ascii xs ≡ true → (i : ℕ) → get_or xs i 0 < 128
-ascii_at [] all i = omega arith
-ascii_at (x ∷ xs) all zero = first_is_ascii x (list_all is_ascii xs) all
-ascii_at (x ∷ xs) all (suc i) = ascii_at xs (and_second (is_ascii x) (list_all is_ascii xs) all) i
 
 -- each byte of an ASCII prefix
 pub ascii_byte : (bytes : List ℕ) (n i : ℕ) → i < n → IsAsciiPrefix bytes n → get_or bytes i 0 < 128

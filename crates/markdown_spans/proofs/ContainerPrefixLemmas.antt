@@ -1,25 +1,25 @@
 -- What is taken of a line is spaces, tabs and `>` of its beginning.
 use Rattle.std.proofs.Common.{◌≡◌, ℕ, suc, ◌+◌, ◌-◌, ◌≤◌, ◌<◌, List, [], ◌∷◌, ◌++◌, Option, Some, None, Bool, true}
-use Rattle.std.proofs.Common.{false, ◌==◌, ◌||◌, ◌&&◌}
-use Rattle.std.proofs.Common.{length, take, drop, get_or, refl, sym, ◌∙◌, ap, arith, append_assoc, length-append}
-use Rattle.std.proofs.Common.{drop-cons}
+use Rattle.std.proofs.Common.{false, ◌==◌, ◌||◌, ◌&&◌, length, take, drop, get_or, refl, sym, ◌∙◌, ap, arith}
+use Rattle.std.proofs.Common.{append_assoc, length-append, drop-cons}
 use Rattle.std.specs.Prelude.{nat_lt, nat_le, IfSome, nat_eq, codes}
 use Rattle.std.specs.List.{list_all, list_any}
 use Rattle.std.specs.Char.{is_ascii}
 use Rattle.std.proofs.Math.Seq.{take-append_seam}
 use Rattle.std.proofs.lemmas.List.{drop_all}
 use Rattle.std.proofs.lemmas.List.Folds.{list_all-append}
-use Rattle.std.proofs.lemmas.Bool.{true≢false}
+use Rattle.std.proofs.lemmas.Bool.{and_parts, true≢false}
 use Rattle.std.proofs.lemmas.Bool.Decides.{nat_tests}
+use Rattle.std.proofs.Math.Bool.{and-false, or-true}
 use Rattle.markdown_base.specs.declared.item.ItemBody.{ItemBody}
 use Rattle.markdown_base.specs.declared.item.ItemBody.TheVariants as body
 use Rattle.markdown_scan.specs.LineStart.{LineLeft, space_width, column_after, space_from, leading_space, is_line_over}
+use Rattle.markdown_scan.specs.LineStart.{past_one_byte}
 use Rattle.markdown_scan.specs.Beginnings.{begins_with}
 use Rattle.markdown_scan.specs.ContainerParts.{past_indent, past_part, past_quote}
-use Rattle.markdown_scan.specs.LineStart.{past_one_byte}
-use Rattle.markdown_spans.specs.ContainerPrefix.{past_blocks, prefix_length}
-use Rattle.markdown_spans.specs.ContainerPrefix.{has_prefix}
+use Rattle.markdown_spans.specs.ContainerPrefix.{past_blocks, prefix_length, has_prefix}
 use Rattle.markdown_base.specs.declared.item.Item.{Item}
+use Rattle.markdown_base.proofs.BoolLemmas.{and_second}
 use Rattle.markdown_spans.specs.PrefixView.{bodies_of, length_by}
 use Rattle.markdown_spans.specs.declared.prefixes.ContainerPrefix.{ContainerPrefix}
 
@@ -100,10 +100,6 @@ byte_past : (line : List ℕ) (n : ℕ) (bytes : List ℕ) → begins_with (code
 byte_past line n [] e past = absurd (true≢false (sym e))
 byte_past line n (b ∷ bytes) e past = one_past line n b bytes (marker_is_taken b bytes e) past
 
-second_of : (a b : Bool) → (a && b) ≡ true → b ≡ true
-second_of true b e = e
-second_of false b e = cc
-
 quote_past : (line : List ℕ) (left : LineLeft) → IsPast line left → IfPast line (past_quote left)
 quote_past line left past = cases (near && marked) refl
   where
@@ -120,7 +116,7 @@ quote_past line left past = cases (near && marked) refl
     cases false e = rw e tt
     cases true e =
         rw e (space_past line 1 (past_one_byte after)
-        (byte_past line after.scanned after.bytes (second_of near marked e) (space_past line 4 left past)))
+        (byte_past line after.scanned after.bytes (and_second near marked e) (space_past line 4 left past)))
 
 indent_past : (line : List ℕ) (n : ℕ) (left : LineLeft) → IsPast line left → IfPast line (past_indent n left)
 indent_past line n left past = cases
@@ -160,20 +156,16 @@ taken_is_ascii b e = grind (arith, nat_tests)
 taken_opens_none : (b : ℕ) → is_taken b ≡ true → nat_eq 91 b ≡ false
 taken_opens_none b e = grind (arith, nat_tests)
 
-both_of : (a b : Bool) → (a && b) ≡ true → (a ≡ true) × (b ≡ true)
-both_of true b e = (refl, e)
-both_of false b e = absurd (cc e)
-
 all_ascii : (bytes : List ℕ) → list_all is_taken bytes ≡ true → list_all is_ascii bytes ≡ true
 all_ascii [] e = refl
 all_ascii (b ∷ bytes) e =
-    let h = both_of (is_taken b) (list_all is_taken bytes) e in
+    let h = and_parts (is_taken b) (list_all is_taken bytes) e in
     rw (taken_is_ascii b h.0, all_ascii bytes h.1) refl
 
 none_opens : (bytes : List ℕ) → list_all is_taken bytes ≡ true → list_any (nat_eq 91) bytes ≡ false
 none_opens [] e = refl
 none_opens (b ∷ bytes) e =
-    let h = both_of (is_taken b) (list_all is_taken bytes) e in
+    let h = and_parts (is_taken b) (list_all is_taken bytes) e in
     rw (taken_opens_none b h.0, none_opens bytes h.1) refl
 
 -- the prefix of a line is ASCII bytes of its beginning
@@ -238,10 +230,6 @@ ending_begins_no_marker : (bytes : List ℕ) → is_line_over bytes ≡ true →
 ending_begins_no_marker [] e = refl
 ending_begins_no_marker (b ∷ bytes) e = grind (arith, nat_tests, e)
 
-second_true : (a : Bool) → (a || true) ≡ true
-second_true true = refl
-second_true false = refl
-
 -- at the end of a line nothing is space
 no_space_from : (n scanned column : ℕ) (bytes : List ℕ) → is_line_over bytes ≡ true
     → (space_from n scanned column bytes).after
@@ -249,7 +237,7 @@ no_space_from : (n scanned column : ℕ) (bytes : List ℕ) → is_line_over byt
 no_space_from n scanned column [] e = refl
 no_space_from n scanned column (b ∷ bytes) e =
     let other = ending_is_no_space b e in
-    rw (other.0, other.1, second_true (n == 0)) refl
+    rw (other.0, other.1, or-true (n == 0)) refl
 
 no_byte_is_space : (n : ℕ) (line : LineLeft) → is_line_over line.bytes ≡ true
     → TakesNoByte line (leading_space n line).after
@@ -272,17 +260,13 @@ no_byte_of_indent n line e =
     cases true t = rw t (no_byte_is_space n line e)
     cases false t = rw t tt
 
-second_false : (a : Bool) → (a && false) ≡ false
-second_false true = refl
-second_false false = refl
-
 -- no block takes a byte of it
 no_byte_of_block : (gfm : Bool) (block : ItemBody) (line : LineLeft) → is_line_over line.bytes ≡ true
     → IfSome (past_part gfm block line) (TakesNoByte line)
 no_byte_of_block gfm (body.BlockQuote kind) line e =
     let spaces = no_byte_is_space 4 line e in
     let none = ending_begins_no_marker (leading_space 4 line).after.bytes (rw spaces.bytes e) in
-    rw (none, second_false (nat_lt (leading_space 4 line).columns 4)) tt
+    rw (none, and-false (nat_lt (leading_space 4 line).columns 4)) tt
 no_byte_of_block gfm (body.ListItem indent) line e = no_byte_of_indent indent line e
 no_byte_of_block gfm (body.DefinitionListDefinition indent) line e = no_byte_of_indent indent line e
 no_byte_of_block true (body.FootnoteDefinition name) line e = no_byte_of_indent 4 line e

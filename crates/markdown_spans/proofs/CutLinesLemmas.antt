@@ -1,15 +1,15 @@
 -- The container prefix of a line that is cut: what is read of a cut line is what is read of the line, up to the cut.
 use Rattle.std.proofs.Common.{◌≡◌, ℕ, zero, suc, ◌+◌, ◌-◌, ◌≤◌, ◌<◌, Bool, true, false, List, [], ◌∷◌, Option, Some}
-use Rattle.std.proofs.Common.{None, ◌==◌, ◌&&◌, ◌||◌, length, take, drop, codes, refl, sym, ◌∙◌, ap, subst, arith, min}
-use Rattle.std.specs.Prelude.{nat_lt, nat_le, not, if◌then◌else◌, slice_range}
+use Rattle.std.proofs.Common.{None, ◌==◌, ◌&&◌, ◌||◌, length, take, drop, codes, refl, sym, ◌∙◌, ap, arith, length-drop}
+use Rattle.std.specs.Prelude.{nat_lt, nat_le, not, if◌then◌else◌}
 use Rattle.std.specs.List.{list_all}
-use Rattle.std.proofs.Common.{length-drop}
 use Rattle.std.proofs.Math.Seq.{take-nil}
 use Rattle.std.proofs.lemmas.Bool.{true≢false}
 use Rattle.std.proofs.lemmas.Bool.Decides.{nat_tests}
 use Rattle.std.proofs.lemmas.List.{drop-drop, length-take}
 use Rattle.markdown_base.specs.declared.item.ItemBody.{ItemBody}
 use Rattle.markdown_base.specs.declared.item.ItemBody.TheVariants as body
+use Rattle.markdown_base.proofs.BoolLemmas.{and_first, and_second}
 use Rattle.markdown_scan.specs.Beginnings.{begins_with}
 use Rattle.markdown_scan.specs.ContainerParts.{past_indent, past_part, past_quote}
 use Rattle.markdown_scan.specs.LineStart.{LineLeft, Space, column_after, is_line_over, leading_space, past_marker}
@@ -372,14 +372,6 @@ marker_in_cut m scanned owed column (b ∷ bytes) marked = by_cut m
           column = λ low. space.column (low_next low);
         }
 
-second_of : (a b : Bool) → (a && b) ≡ true → b ≡ true
-second_of true b e = e
-second_of false b e = absurd (true≢false (sym e))
-
-first_of : (a b : Bool) → (a && b) ≡ true → a ≡ true
-first_of true b e = refl
-first_of false b e = e
-
 quote_in_cut : (m : ℕ) (left : LineLeft) → PartInCut true m left (past_quote left) (past_quote (cut m left))
 quote_in_cut m left = cases (near && marked) refl
   where
@@ -429,7 +421,7 @@ quote_in_cut m left = cases (near && marked) refl
     cases : (there : Bool) → (near && marked) ≡ there
         → PartInCut true m left (past_quote left) (past_quote (cut m left))
     cases false e = rw e (none (leading_space 4 (cut m left)) (no_marker_in_cut m 4 left (lacks e)))
-    cases true e = rw e (kept (first_of near marked e) (second_of near marked e))
+    cases true e = rw e (kept (and_first near marked e) (and_second near marked e))
 
 over_in_cut : (k : ℕ) (bytes : List ℕ) → is_line_over bytes ≡ true → is_line_over (take k bytes) ≡ true
 over_in_cut k [] over = rw (take-nil {A = ℕ} k) refl

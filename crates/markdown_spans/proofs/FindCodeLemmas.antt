@@ -1,6 +1,5 @@
 -- What a search for the end of a code span finds, whether it walks or reads what was learned.
-use Rattle.std.proofs.Common.{◌≡◌, ℕ, suc, ◌<◌, Bool, List, [], ◌∷◌, Option, Some, None, true, false}
-use Rattle.std.proofs.Common.{not, length, refl}
+use Rattle.std.proofs.Common.{◌≡◌, ℕ, suc, ◌<◌, Bool, List, [], ◌∷◌, Option, Some, None, true, false, not, length, refl}
 use Rattle.std.proofs.Common.{arith, subst, sym, ◌∙◌, ap}
 use Rattle.std.specs.Prelude.{if◌then◌else◌, ◌==◌, is_some, IfSome}
 use Rattle.std.specs.Option.{option_map}
@@ -17,8 +16,7 @@ use Rattle.markdown_spans.specs.ChainSearch.{SearchesCode, learned_by}
 use Rattle.markdown_spans.specs.Closers.{closing_count, code_close, code_closer, is_code_of}
 use Rattle.markdown_spans.specs.CloserSearches.{looked_for_code, looked_for_code_close, opens_code}
 use Rattle.markdown_spans.specs.SpanClosers.{ClosesCode, HoldsFrom, HoldsOf, Learned, LooksForCode, RisesBy}
-use Rattle.markdown_spans.specs.SpanClosers.{LooksForCodeAtMost, failed_by_now, has_failed}
-use Rattle.markdown_spans.specs.SpanClosers.{item_in, unless_failed}
+use Rattle.markdown_spans.specs.SpanClosers.{LooksForCodeAtMost, failed_by_now, has_failed, item_in, unless_failed}
 use Rattle.markdown_spans.specs.SpanMarks.{known_after, known_closer, known_closers, mark_at, marks_in}
 use Rattle.markdown_spans.proofs.LearnedLemmas.{KnownHere, from_opener, knows_all, known_here}
 use Rattle.markdown_spans.proofs.SpanSearchLemmas.{first_is_code}

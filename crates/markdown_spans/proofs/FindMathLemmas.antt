@@ -1,10 +1,9 @@
 -- What a search for the end of a math span finds, whether it walks or reads what was learned.
 use Rattle.std.proofs.Common.{◌≡◌, ℕ, suc, ◌+◌, ◌<◌, ◌≤◌, Bool, List, [], ◌∷◌, ◌++◌, Option, Some, None, true, false}
-use Rattle.std.proofs.Common.{not, length, refl}
-use Rattle.std.proofs.Common.{arith, subst, sym, ◌∙◌, ap, append_assoc, append-nil, length-append}
+use Rattle.std.proofs.Common.{not, length, refl, arith, subst, sym, ◌∙◌, ap, append_assoc, append-nil, length-append}
+use Rattle.std.proofs.Common.{eq-eqb}
 use Rattle.std.specs.Prelude.{if◌then◌else◌, ◌==◌, is_some, option_to_list, IfSome}
 use Rattle.std.specs.Option.{option_map}
-use Rattle.std.proofs.Common.{eq-eqb}
 use Rattle.std.proofs.lemmas.Bool.Decides.{nat_tests}
 use Rattle.markdown_base.specs.declared.item.Item.{Item}
 use Rattle.markdown_base.specs.declared.node.Node.{Node}
@@ -17,16 +16,15 @@ use Rattle.markdown_spans.specs.Closers.{can_open, context_of, first_dollar, is_
 use Rattle.markdown_spans.specs.CloserSearches.{looked_for_dollar, looked_for_math}
 use Rattle.markdown_spans.specs.MathOpening.{closed_at, closed_by_first, dollar_at, marks_at, opener_at, searched_from}
 use Rattle.markdown_spans.specs.SpanClosers.{ClosesMath, HoldsFrom, Learned, RisesBy, StandsIn, failed_by_now}
-use Rattle.markdown_spans.specs.SpanClosers.{found_math, has_failed}
-use Rattle.markdown_spans.specs.SpanClosers.{item_in}
+use Rattle.markdown_spans.specs.SpanClosers.{found_math, has_failed, item_in}
 use Rattle.markdown_spans.specs.SpanMarks.{first_with, is_wanted, known_after, known_closer, known_closers, mark_at}
 use Rattle.markdown_spans.specs.SpanMarks.{marks_in}
 use Rattle.markdown_spans.proofs.ChainWalkLemmas.{begins_at, chain_at, marks_in-append, rises_on}
 use Rattle.markdown_spans.proofs.FindCodeLemmas.{here_of, holds_left}
 use Rattle.markdown_spans.proofs.LearnedLemmas.{KnownHere, mark_number}
 use Rattle.markdown_spans.proofs.MathOpeningLemmas.{OpenerIs, Searched, closes_by, dollar_mark, first_within}
-use Rattle.markdown_spans.proofs.MathOpeningLemmas.{found_or_not, looked_within}
-use Rattle.markdown_spans.proofs.MathOpeningLemmas.{math_stands, opener_is, opener_mark, opener_number, searched}
+use Rattle.markdown_spans.proofs.MathOpeningLemmas.{found_or_not, looked_within, math_stands, opener_is, opener_mark}
+use Rattle.markdown_spans.proofs.MathOpeningLemmas.{opener_number, searched}
 use Rattle.markdown_spans.proofs.SpanSearchLemmas.{breaks_for_dollar, nothing_left, first_is_dollar, walk_for_dollar}
 use Rattle.markdown_spans.specs.declared.math_opener.MathOpener.{MathOpener}
 use Rattle.markdown_spans.specs.declared.span_closers.FoundMath.{FoundMath}

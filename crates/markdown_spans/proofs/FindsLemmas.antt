@@ -14,8 +14,7 @@ use Rattle.markdown_document.specs.Waiting.{is_quiet}
 use Rattle.markdown_spans.specs.AfterLess.{Markup, autolink, html_markup}
 use Rattle.markdown_document.specs.ChainRest.{begun_at, cut_shape, end_of, open_body, past, past_byte}
 use Rattle.markdown_spans.specs.Finds.{Find, SpanText, code_span, code_trees, find, is_escaped, markup, markup_trees}
-use Rattle.markdown_spans.specs.Finds.{math_span, nothing}
-use Rattle.markdown_spans.specs.Finds.{read_tree, read_unless, trees_for}
+use Rattle.markdown_spans.specs.Finds.{math_span, nothing, read_tree, read_unless, trees_for}
 
 -- what is no more open, all through a forest
 abbrev pub AllClosed : {A : Type 0} → Forest (TreeNode A) → Type 0
@@ -34,7 +33,7 @@ open_weight backslash_break h = cc h
 open_weight (unresolved b) h = refl
 
 -- cutting opens and closes nothing, and no run loses a character
-cut_open : (n : ℕ) (shape : Shape) → is_unresolved (cut_shape n shape) ≡ is_unresolved shape
+pub cut_open : (n : ℕ) (shape : Shape) → is_unresolved (cut_shape n shape) ≡ is_unresolved shape
 cut_open n (leaf e origins) = refl
 cut_open n (enclosed tag origins) = refl
 cut_open n plain = refl

@@ -16,15 +16,12 @@ use Rattle.markdown_spans.specs.AfterLess.{Markup, autolink, html_markup, markup
 use Rattle.markdown_document.specs.ChainRest.{as_item, begun_at, start_of, end_of, next_starts_at, open_body, past}
 use Rattle.markdown_document.specs.ChainRest.{past_byte}
 use Rattle.markdown_spans.specs.Closers.{Dollar, MathClose, can_close, can_open, math_closed_by, closing_count}
-use Rattle.markdown_spans.specs.Closers.{code_close, code_closer}
-use Rattle.markdown_spans.specs.Closers.{context_of, display_close, dollar_next, first_dollar, inline_close, is_code_of}
-use Rattle.markdown_spans.specs.Closers.{is_dollar}
-use Rattle.markdown_spans.specs.Closers.{is_dollar_of, math_close, math_close_from}
+use Rattle.markdown_spans.specs.Closers.{code_close, code_closer, context_of, display_close, dollar_next, first_dollar}
+use Rattle.markdown_spans.specs.Closers.{inline_close, is_code_of, is_dollar, is_dollar_of, math_close, math_close_from}
 use Rattle.markdown_spans.specs.Finds.{Find, Passed, SpanText, code_found, code_span, code_trees, end_of_find, find}
-use Rattle.markdown_spans.specs.Finds.{find_by, is_escaped}
-use Rattle.markdown_spans.specs.Finds.{made_by, prefix_below, span_between, markup, markup_found, markup_trees}
-use Rattle.markdown_spans.specs.Finds.{math_found, math_span, math_text_start, nothing, passed, read_tree, read_unless}
-use Rattle.markdown_spans.specs.Finds.{trees_for}
+use Rattle.markdown_spans.specs.Finds.{find_by, is_escaped, made_by, prefix_below, span_between, markup, markup_found}
+use Rattle.markdown_spans.specs.Finds.{markup_trees, math_found, math_span, math_text_start, nothing, passed, read_tree}
+use Rattle.markdown_spans.specs.Finds.{read_unless, trees_for}
 use Rattle.markdown_spans.specs.declared.span_text.SpanKind.TheVariants.{Math}
 
 module _ {A B : Type 0} (f : A → B) where

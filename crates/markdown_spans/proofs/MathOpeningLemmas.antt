@@ -1,7 +1,6 @@
 -- An opener of math in an arena, by the list of the items after it.
 use Rattle.std.proofs.Common.{◌≡◌, ℕ, suc, ◌+◌, ◌<◌, ◌≤◌, Bool, List, [], ◌∷◌, ◌++◌, Option, Some, None, true, false}
-use Rattle.std.proofs.Common.{◌&&◌, not, length}
-use Rattle.std.proofs.Common.{drop, refl, arith, subst, sym, ◌∙◌, ap}
+use Rattle.std.proofs.Common.{◌&&◌, not, length, drop, refl, arith, subst, sym, ◌∙◌, ap}
 use Rattle.std.specs.Prelude.{if◌then◌else◌, ◌==◌, is_some, option_to_list, IfSome}
 use Rattle.std.specs.Option.{option_map}
 use Rattle.markdown_base.specs.declared.item.Item.{Item}

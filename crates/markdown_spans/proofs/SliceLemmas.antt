@@ -1,14 +1,13 @@
 -- Slices of a text, and slices of those.
-use Rattle.std.proofs.Common.{◌≡◌, ℕ, zero, suc, ◌+◌, ◌-◌, ◌<◌, ◌≤◌, List, [], ◌∷◌, length, take, drop, refl, sym, ap}
-use Rattle.std.proofs.Common.{◌∙◌, arith, ⊎_elim}
+use Rattle.std.proofs.Common.{◌≡◌, ℕ, zero, suc, ◌+◌, ◌-◌, ◌≤◌, List, [], length, take, drop, refl, sym, ap, ◌∙◌, arith}
 use Rattle.std.specs.Prelude.{min, slice_range}
 use Rattle.std.specs.declared.ops.Range.{Range}
 use Rattle.std.proofs.Math.Logic.{∥∥₁_map}
-use Rattle.std.proofs.lemmas.Bool.{cases_lt}
-use Rattle.std.proofs.lemmas.List.{drop-drop, length-take, take-take, take_all}
+use Rattle.std.proofs.lemmas.List.{drop-drop, take_all}
 use Rattle.markdown_document.specs.Origins.{IsSliceWithin, Origin}
 use Rattle.markdown_document.specs.PlacedNodes.{IsSlicedOf}
 use Rattle.markdown_document.proofs.OriginLemmas.{slice_wider}
+use Rattle.markdown_base.proofs.ListLemmas.{take_of_take, drop_of_take}
 
 -- the bytes between two byte offsets of a text are a slice of it, and so are all its bytes
 pub slice_between : (text : List ℕ) (start end : ℕ) (bytes : List ℕ) → bytes ≡ take (end - start) (drop start text)
@@ -24,24 +23,6 @@ slice_whole text =
 first_of_none : (n : ℕ) → let none : List ℕ = [] in none ≡ take n none
 first_of_none zero = refl
 first_of_none (suc n) = refl
-
--- what is left of the first bytes of a text, and the first of those
-drop_of_take : (i m : ℕ) (xs : List ℕ) → drop i (take m xs) ≡ take (m - i) (drop i xs)
-drop_of_take zero m xs = let e : m ≡ m - 0 = omega arith in ap (λ n. take n xs) e
-drop_of_take (suc i) zero xs = let e : 0 ≡ 0 - suc i = omega arith in ap (λ n. take n (drop (suc i) xs)) e
-drop_of_take (suc i) (suc m) [] = first_of_none (suc m - suc i)
-drop_of_take (suc i) (suc m) (x ∷ xs) = let e : m - i ≡ suc m - suc i = omega arith in drop_of_take i m xs
-    ∙ ap (λ n. take n (drop i xs)) e
-
-take_of_take : (i m : ℕ) (xs : List ℕ) → take i (take m xs) ≡ take (min i m) xs
-take_of_take i m xs =
-    ⊎_elim
-    (λ (l : i < m). let e : i ≡ min i m = omega (arith, l) in take-take i m xs (omega (arith, l))
-    ∙ ap (λ n. take n xs) e)
-    (λ (l : m ≤ i). let e : m ≡ min i m = omega (arith, l) in take_all i (take m xs)
-    (omega (arith, l, length-take m xs))
-    ∙ ap (λ n. take n xs) e)
-    (cases_lt i m)
 
 slice_twice : (text : List ℕ) (a b c d : ℕ)
     → slice_range (slice_range text a b) c d ≡ take ((a + min d (b - a)) - (a + c)) (drop (a + c) text)

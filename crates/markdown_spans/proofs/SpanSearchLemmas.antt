@@ -1,6 +1,5 @@
 -- What a search for a mark says about the closers of spans, and about the items that are examined.
-use Rattle.std.proofs.Common.{◌≡◌, ℕ, suc, ◌+◌, Bool, List, [], ◌∷◌, ◌++◌, Option, Some, None, true}
-use Rattle.std.proofs.Common.{false, length}
+use Rattle.std.proofs.Common.{◌≡◌, ℕ, suc, ◌+◌, Bool, List, [], ◌∷◌, ◌++◌, Option, Some, None, true, false, length}
 use Rattle.std.proofs.Common.{refl, arith, sym, ◌∙◌, ap, append-nil}
 use Rattle.std.specs.Prelude.{option_to_list, if◌then◌else◌, is_some}
 use Rattle.std.specs.Option.{option_map}

@@ -1,15 +1,14 @@
 -- The number of items that a search examines, by what it finds.
 use Rattle.std.proofs.Common.{◌≡◌, ℕ, suc, ◌+◌, ◌≤◌, Bool, true, false, List, [], ◌∷◌, ◌++◌, Some, None, length, drop}
-use Rattle.std.proofs.Common.{refl, arith, sym}
-use Rattle.std.proofs.Common.{◌∙◌, ap, length-append}
+use Rattle.std.proofs.Common.{refl, arith, sym, ◌∙◌, ap, length-append}
 use Rattle.std.specs.Prelude.{if◌then◌else◌, ◌==◌, is_some}
 use Rattle.markdown_base.specs.declared.item.Item.{Item}
 use Rattle.markdown_base.specs.declared.item.ItemBody.{ItemBody}
 use Rattle.markdown_base.specs.declared.item.ItemBody.TheVariants as body
 use Rattle.markdown_base.specs.BlockTree.{Numbered}
 use Rattle.markdown_spans.specs.Closers.{Dollar, can_open, closing_count, code_close, code_closer, context_of}
-use Rattle.markdown_spans.specs.Closers.{dollar_next, first_dollar, is_code_of, is_dollar_of}
-use Rattle.markdown_spans.specs.Closers.{math_close, math_close_from}
+use Rattle.markdown_spans.specs.Closers.{dollar_next, first_dollar, is_code_of, is_dollar_of, math_close}
+use Rattle.markdown_spans.specs.Closers.{math_close_from}
 use Rattle.markdown_spans.specs.CloserSearches.{looked_for_code, looked_for_code_close, looked_for_dollar}
 use Rattle.markdown_spans.specs.CloserSearches.{looked_for_math, looked_for_math_from, searched_for_math}
 use Rattle.markdown_spans.specs.SpanClosers.{item_in}

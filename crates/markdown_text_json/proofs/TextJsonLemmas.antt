@@ -1,6 +1,5 @@
 -- What a parser returns with ranges, up to its first None, is all that was left of it.
-use Rattle.std.proofs.Common.{◌≡◌, ℕ, List, [], ◌∷◌, ◌++◌, map, Err, Option, None, Result}
-use Rattle.std.proofs.Common.{ap, refl, sym, ◌∙◌, is_some}
+use Rattle.std.proofs.Common.{◌≡◌, ℕ, List, [], ◌∷◌, ◌++◌, map, Err, Option, None, Result, ap, refl, sym, ◌∙◌, is_some}
 use Rattle.std.proofs.lemmas.List.Folds.{flat_map-map}
 use Rattle.std.specs.Iterator.{Drains, Yields}
 use Rattle.std.specs.List.{flat_map}
@@ -8,10 +7,9 @@ use Rattle.markdown_base.specs.Source.{Source}
 use Rattle.markdown_base.specs.Questions.{Question, Answer, Answers}
 use Rattle.markdown_base.specs.declared.fault.Fault.{Fault}
 use Rattle.markdown_base.specs.declared.fault.Fault.TheVariants.{Memory}
-use Rattle.markdown_defs.specs.Callback.{Asks}
+use Rattle.markdown_defs.proofs.CallbackLemmas.{unasked}
 use Rattle.markdown_inline.specs.Balanced.{ranged}
-use Rattle.markdown_inline.specs.Elements.{Element, event, events_of}
-use Rattle.markdown_inline.specs.Elements.{Placed as Read}
+use Rattle.markdown_inline.specs.Elements.{Placed as Read, Element, event, events_of}
 use Rattle.markdown_inline.specs.NextGives.{NextGives, IsPlacedOf}
 use Rattle.markdown_inline.specs.ParserLeft.{ReadsText, elements, parser_callback, offset_parser}
 use Rattle.markdown_inline.specs.declared.walk.OffsetIter.{OffsetIter}
@@ -23,14 +21,6 @@ use Rattle.markdown_json.specs.Json.{line_json}
 use Rattle.markdown_outline.specs.Outline.{Ranged}
 use Rattle.markdown_outline.specs.OutlineRead.{ranged_view}
 use Rattle.markdown_text_json.specs.TextJson.{json_of_text, placed_line}
-
--- with no callback nothing is asked, and there is none afterwards
-unasked : {F : Type 0} (step : F → Question → Option Answer → F → Type 0) (after : Option F) (questions : List Question)
-    (answers : Answers) → Asks step None questions answers after → (answers ≡ []) × (after ≡ None)
-unasked step after [] [] asked = (refl, sym asked)
-unasked step after [] (a ∷ answers) asked = absurd asked
-unasked step after (q ∷ questions) [] asked = absurd asked
-unasked step after (q ∷ questions) (a ∷ answers) asked = absurd asked
 
 -- the line of an event with its range
 abbrev ranged_line : Ranged → List ℕ

@@ -1,7 +1,6 @@
 -- What a callback is asked between two states of it, and what it answers.
 use Rattle.std.proofs.Common.{◌≡◌, ◌∙◌, ◌++◌, ◌∷◌, ℕ, List, [], Ok, Option, Some, None, ap, ap₂, drop, false, length}
-use Rattle.std.proofs.Common.{map}
-use Rattle.std.proofs.Common.{append-nil, append_assoc, refl, subst, sym, MatchOption}
+use Rattle.std.proofs.Common.{map, append-nil, append_assoc, refl, subst, sym, MatchOption}
 use Rattle.std.specs.Borrow.{Bor}
 use Rattle.std.proofs.lemmas.List.{drop-map, length-map}
 use Rattle.std.proofs.Math.Seq.{drop-append_seam}

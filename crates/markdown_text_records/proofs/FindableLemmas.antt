@@ -1,7 +1,6 @@
 -- The definitions that can be found, as they are stored and by definition.
 use Rattle.std.proofs.Common.{◌≡◌, ◌∙◌, ◌∷◌, ◌++◌, ◌||◌, ℕ, Bool, true, false, List, [], Some, None, ap, cond, find}
-use Rattle.std.proofs.Common.{is_some, map}
-use Rattle.std.proofs.Common.{refl, sym}
+use Rattle.std.proofs.Common.{is_some, map, refl, sym}
 use Rattle.std.specs.List.{fold, list_any}
 use Rattle.std.proofs.lemmas.List.{map-append}
 use Rattle.markdown_base.specs.Source.{Source}

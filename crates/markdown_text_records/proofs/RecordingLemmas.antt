@@ -1,7 +1,6 @@
 -- Elements are written one after another, as a parser gives them.
 use Rattle.std.proofs.Common.{◌≡◌, ◌∙◌, ◌++◌, ◌∷◌, ◌⊎◌, ℕ, List, [], Err, Ok, Result, Option, Some, None, ap, drop}
-use Rattle.std.proofs.Common.{false}
-use Rattle.std.proofs.Common.{append-nil, append_assoc, inl, inr, length, map, refl, subst, sym, ⊎_elim}
+use Rattle.std.proofs.Common.{false, append-nil, append_assoc, inl, inr, length, map, refl, subst, sym, ⊎_elim, ap₂}
 use Rattle.std.specs.Prelude.{⊤}
 use Rattle.std.specs.Borrow.{Bor}
 use Rattle.std.specs.List.{flat_map}
@@ -14,7 +13,6 @@ use Rattle.markdown_base.specs.declared.fault.Fault.TheVariants.{Memory}
 use Rattle.markdown_defs.specs.Callback.{Asks}
 use Rattle.markdown_defs.specs.CallbackViews.{question_of}
 use Rattle.markdown_document.proofs.CallbackLemmas.{Asks-append}
-use Rattle.std.proofs.Common.{ap₂}
 use Rattle.std.specs.declared.ops.Range.{Range}
 use Rattle.markdown_base.specs.Event.{event_view}
 use Rattle.markdown_base.specs.declared.event.Event.{Event}

@@ -1,7 +1,7 @@
 -- The records of a text, from what is written of its reading and of its definitions.
 use Rattle.std.proofs.Common.{◌≡◌, ◌∙◌, ◌++◌, ◌⊎◌, ℕ, List, [], Err, Ok, Result, Option, Some, None, ap, ap₂, inl, inr}
-use Rattle.std.proofs.Common.{is_some}
-use Rattle.std.proofs.Common.{◌≤◌, ◌^◌, append-nil, length, map, max, refl, subst, sym, true, ⊎_elim, Vec, Global}
+use Rattle.std.proofs.Common.{is_some, ◌≤◌, ◌^◌, append-nil, length, map, max, refl, subst, sym, true, ⊎_elim, Vec}
+use Rattle.std.proofs.Common.{Global}
 use Rattle.std.specs.Prelude.{MatchResult, ⊤}
 use Rattle.std.specs.List.{flat_map}
 use Rattle.markdown_base.specs.Questions.{Answers}
@@ -34,8 +34,7 @@ use Rattle.markdown_text_records.specs.Recording.{BeginsTooLong as BeginsLong, I
 use Rattle.markdown_text_records.specs.DefinitionsView.{labelled_view}
 use Rattle.markdown_text_records.specs.RecordedEntries.{IsMarked}
 use Rattle.markdown_text_records.specs.TextRecords.{AreRecordsOf, AreTooLong, BeginsTooLong, IsFaultOfText}
-use Rattle.markdown_text_records.specs.TextRecords.{contents_of_text}
-use Rattle.markdown_text_records.specs.TextRecords.{entry_of, findable, labelled}
+use Rattle.markdown_text_records.specs.TextRecords.{contents_of_text, entry_of, findable, labelled}
 use Rattle.markdown_text_records.specs.declared.answering.Answering.{Answering}
 use Rattle.markdown_text_records.proofs.AskedLemmas.{asked_all}
 

@@ -6,7 +6,7 @@ use Rattle.markdown_base.specs.BlockTree.{item_at, no_item}
 use Rattle.markdown_builder.specs.Standing.{with_item}
 use Rattle.markdown_builder.specs.TreeSteps.{Tightens, none_tight, one_tight, MakesTight, is_paragraph, tight}
 use Rattle.markdown_builder.proofs.NodeWriteLemmas.{item_writes}
-use Rattle.markdown_builder.proofs.ClosedLevelLemmas.{same_item_written, other_stays}
+use Rattle.markdown_builder.proofs.LaidLemmas.{same_item_written, other_stays}
 use Rattle.markdown_builder.proofs.ClosedListLemmas.{one_made, none_made}
 use Rattle.markdown_builder.proofs.tight.tighten.Goals as goal
 

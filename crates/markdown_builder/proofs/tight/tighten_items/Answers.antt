@@ -4,7 +4,7 @@ use Rattle.std.specs.Prelude.{IfSome}
 use Rattle.markdown_base.specs.Arena.{child_of}
 use Rattle.markdown_builder.specs.TreeSteps.{none_tight}
 use Rattle.markdown_builder.specs.TreeLevels.{items_tightened}
-use Rattle.markdown_builder.proofs.ClosedLevelLemmas.{all_left_laid, none_left_laid, item_laid}
+use Rattle.markdown_builder.proofs.LaidLemmas.{all_left_laid, none_left_laid, item_laid}
 use Rattle.markdown_builder.proofs.ClosedListLemmas.{item_step, items_done, rising_still, items_left, tightens_on}
 use Rattle.markdown_builder.proofs.ClosedListLemmas.{next_after}
 use Rattle.markdown_builder.proofs.tight.tighten_items.Goals as goal

@@ -5,7 +5,7 @@ use Rattle.std.specs.Prelude.{IfSome}
 use Rattle.markdown_base.specs.Arena.{child_of}
 use Rattle.markdown_builder.specs.TreeSteps.{Tightens}
 use Rattle.markdown_builder.specs.TreeLevels.{items_tightened}
-use Rattle.markdown_builder.proofs.ClosedLevelLemmas.{LaidLeft}
+use Rattle.markdown_builder.proofs.LaidLemmas.{LaidLeft}
 use Rattle.markdown_builder.proofs.ClosedListLemmas.{ItemsLeft, nodes_from}
 use Rattle.markdown_builder.proofs.tight.tighten_items.Given as goal
 

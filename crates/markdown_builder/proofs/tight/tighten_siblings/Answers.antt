@@ -6,7 +6,7 @@ use Rattle.markdown_base.specs.Arena.{Arena}
 use Rattle.markdown_builder.specs.Tightness.{IsInChain}
 use Rattle.markdown_builder.specs.TreeSteps.{none_tight}
 use Rattle.markdown_builder.specs.TreeLevels.{roots_tightened}
-use Rattle.markdown_builder.proofs.ClosedLevelLemmas.{all_left_laid, none_left_laid, sibling_laid}
+use Rattle.markdown_builder.proofs.LaidLemmas.{all_left_laid, none_left_laid, sibling_laid}
 use Rattle.markdown_builder.proofs.ClosedListLemmas.{all_left, leads_to, sibling_step, siblings_done, rising_still}
 use Rattle.markdown_builder.proofs.ClosedListLemmas.{tightens_on, next_after}
 use Rattle.markdown_builder.proofs.tight.tighten_siblings.Goals as goal

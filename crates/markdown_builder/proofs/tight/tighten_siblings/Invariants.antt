@@ -3,7 +3,7 @@ use Rattle.std.proofs.Common.{ℕ, ◌≤◌, length}
 use Rattle.std.specs.Prelude.{IfSome}
 use Rattle.markdown_builder.specs.TreeSteps.{Tightens}
 use Rattle.markdown_builder.specs.TreeLevels.{roots_tightened}
-use Rattle.markdown_builder.proofs.ClosedLevelLemmas.{LaidLeft}
+use Rattle.markdown_builder.proofs.LaidLemmas.{LaidLeft}
 use Rattle.markdown_builder.proofs.ClosedListLemmas.{SiblingsLeft, nodes_from}
 use Rattle.markdown_builder.proofs.tight.tighten_siblings.Given as goal
 

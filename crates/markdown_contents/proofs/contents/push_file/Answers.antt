@@ -3,8 +3,8 @@ use Rattle.std.proofs.Common.{◌∙◌, ap, append-nil, string_bytes, sym, ◌+
 use Rattle.std.proofs.lemmas.Str.{IsUtf8-past_char}
 use Rattle.std.specs.Str.Iter.{chars_rest}
 use Rattle.markdown_contents.specs.Contents.{file_char}
-use Rattle.markdown_contents.proofs.ContentsLemmas.{written-none, written-on}
 use Rattle.markdown_contents.proofs.contents.push_file.Goals as goal
+use Rattle.markdown_base.proofs.ListLemmas.{written-none, written-on}
 
 pub loop-c-preserved : goal.loop-c-preserved
 loop-c-preserved c =

@@ -3,8 +3,8 @@ use Rattle.std.proofs.Common.{◌∙◌, ◌≡◌, IsUtf8, ap, append-nil, char
 use Rattle.std.proofs.lemmas.Str.{IsUtf8-past_char}
 use Rattle.std.specs.Str.Iter.{chars_rest}
 use Rattle.markdown_heading_ids.specs.Anchors.{anchor_part}
-use Rattle.markdown_heading_ids.proofs.AnchorLemmas.{written-none, written-on}
 use Rattle.markdown_heading_ids.proofs.anchor.heading_anchor.Goals as goal
+use Rattle.markdown_base.proofs.ListLemmas.{written-none, written-on}
 
 pub loop-c-init : goal.loop-c-init
 loop-c-init c =

@@ -2,9 +2,9 @@
 use Rattle.std.proofs.Common.{◌∙◌, ap, append-nil, string_bytes, sym, ◌++◌}
 use Rattle.std.proofs.lemmas.Str.{IsUtf8-past_char}
 use Rattle.std.specs.Str.Iter.{chars_rest}
-use Rattle.markdown_page.proofs.AppendedPartsLemmas.{written-none, written-on}
 use Rattle.markdown_page.specs.PageHtml.{html_char}
 use Rattle.markdown_page.proofs.page.push_escaped.Goals as goal
+use Rattle.markdown_base.proofs.ListLemmas.{written-none, written-on}
 
 pub loop-c-preserved : goal.loop-c-preserved
 loop-c-preserved c =

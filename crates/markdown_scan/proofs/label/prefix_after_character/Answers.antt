@@ -4,8 +4,8 @@ use Rattle.std.specs.List.{list_all}
 use Rattle.std.specs.Char.{is_ascii}
 use Rattle.std.proofs.lemmas.Str.{IsCharBoundary-start}
 use Rattle.markdown_scan.proofs.BoundaryLemmas.{after_ascii_bytes}
-use Rattle.markdown_scan.proofs.LabelTextLemmas.{if_both}
 use Rattle.markdown_scan.proofs.label.prefix_after_character.Goals as goal
+use Rattle.markdown_base.proofs.OptionLemmas.{if_both}
 
 pub returns-then-is_ascii-clause-boundary : goal.returns-then-is_ascii-clause-boundary
 returns-then-is_ascii-clause-boundary g c =

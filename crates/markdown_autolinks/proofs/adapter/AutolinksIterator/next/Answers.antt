@@ -3,8 +3,9 @@ use Rattle.std.proofs.Common.{◌∙◌, List, ap, inl, map, option_to_list}
 use Rattle.std.proofs.lemmas.List.{map-append}
 use Rattle.markdown_autolinks.specs.AutolinksNext.{SourceItem, item_read}
 use Rattle.markdown_autolinks.specs.AutolinksState.{linked_state}
-use Rattle.markdown_autolinks.proofs.ReadLemmas.{gives_filled, gives_kept, nothing_kept, nothing_popped}
+use Rattle.markdown_autolinks.proofs.ReadLemmas.{gives_filled, gives_kept}
 use Rattle.markdown_autolinks.proofs.adapter.AutolinksIterator.next.Goals as goal
+use Rattle.markdown_base.proofs.OptionLemmas.{nothing_popped, nothing_kept}
 
 pub returns-in-Some-clause-steps : goal.returns-in-Some-clause-steps
 returns-in-Some-clause-steps g c =

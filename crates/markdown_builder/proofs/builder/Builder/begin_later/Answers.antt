@@ -2,9 +2,8 @@
 use Rattle.std.proofs.Common.{◌∙◌, ap, refl}
 use Rattle.markdown_builder.specs.BuilderView.{innermost_block}
 use Rattle.markdown_builder.specs.Standing.{standpoint}
-use Rattle.markdown_builder.proofs.CallLemmas.{begin_later_keeps, rewritten_levels}
+use Rattle.markdown_builder.proofs.CallLemmas.{begin_later_keeps, rewritten_levels, replaced_rows}
 use Rattle.markdown_builder.specs.Shown.{stored_parts}
-use Rattle.markdown_builder.proofs.OpenRowsLemmas.{replaced_rows}
 use Rattle.markdown_builder.proofs.builder.Builder.begin_later.Goals as goal
 
 pub invariant_of-self : goal.invariant_of-self

@@ -2,9 +2,9 @@
 use Rattle.std.proofs.Common.{◌∙◌, ap, refl}
 use Rattle.markdown_builder.specs.BuilderView.{innermost_block}
 use Rattle.markdown_builder.specs.Standing.{standpoint}
-use Rattle.markdown_builder.proofs.CallLemmas.{change_keeps, rewritten_levels}
+use Rattle.markdown_builder.proofs.CallLemmas.{change_keeps, rewritten_levels, in_no_table, plain_no_table}
+use Rattle.markdown_builder.proofs.CallLemmas.{replaced_rows}
 use Rattle.markdown_builder.specs.Shown.{stored_parts}
-use Rattle.markdown_builder.proofs.OpenRowsLemmas.{in_no_table, plain_no_table, replaced_rows}
 use Rattle.markdown_builder.proofs.builder.Builder.change.Goals as goal
 
 pub invariant_of-self : goal.invariant_of-self

@@ -2,8 +2,7 @@
 use Rattle.std.proofs.Common.{refl, subst, sym}
 use Rattle.markdown_builder.specs.EvenRows.{InnermostRowIsEven}
 use Rattle.markdown_builder.specs.Shown.{stored_parts}
-use Rattle.markdown_builder.proofs.CallLemmas.{close_left, close_keeps, close_levels_of}
-use Rattle.markdown_builder.proofs.OpenRowsLemmas.{block_closed_rows}
+use Rattle.markdown_builder.proofs.CallLemmas.{close_left, close_keeps, close_levels_of, block_closed_rows}
 use Rattle.markdown_builder.proofs.builder.Builder.close.Goals as goal
 
 pub tighten_list-requires : goal.tighten_list-requires

@@ -2,9 +2,8 @@
 use Rattle.std.proofs.Common.{ap, refl, ◌∙◌}
 use Rattle.markdown_builder.specs.Standing.{standpoint}
 use Rattle.markdown_builder.proofs.FormedLemmas.{keeps_formed, headings_hold_inline, covers_at_end}
-use Rattle.markdown_builder.proofs.CallLemmas.{finish_spine, finish_tight}
+use Rattle.markdown_builder.proofs.CallLemmas.{finish_spine, finish_tight, finished_rows}
 use Rattle.markdown_builder.specs.BuilderView.{BuilderView}
-use Rattle.markdown_builder.proofs.OpenRowsLemmas.{finished_rows}
 use Rattle.markdown_builder.proofs.builder.Builder.finish.Goals as goal
 
 pub returns-clause-formed : goal.returns-clause-formed

@@ -2,9 +2,8 @@
 use Rattle.std.proofs.Common.{ap, refl}
 use Rattle.markdown_builder.specs.Standing.{standpoint}
 use Rattle.markdown_builder.specs.Shown.{stored_parts}
-use Rattle.markdown_builder.proofs.CallLemmas.{image_keeps}
+use Rattle.markdown_builder.proofs.CallLemmas.{image_keeps, item_rows}
 use Rattle.markdown_builder.proofs.ShownStepsLemmas.{appended_shown}
-use Rattle.markdown_builder.proofs.OpenRowsLemmas.{item_rows}
 use Rattle.markdown_builder.proofs.builder.Builder.image.Goals as goal
 
 pub invariant_of-self-2 : goal.invariant_of-self-2

@@ -2,10 +2,9 @@
 use Rattle.std.proofs.Common.{ap, refl}
 use Rattle.markdown_builder.specs.Standing.{standpoint}
 use Rattle.markdown_builder.specs.Shown.{stored_parts}
-use Rattle.markdown_builder.proofs.BodiesLemmas.{mark_facts}
-use Rattle.markdown_builder.proofs.CallLemmas.{mark_keeps}
+use Rattle.markdown_builder.proofs.NodeWriteLemmas.{mark_facts}
+use Rattle.markdown_builder.proofs.CallLemmas.{mark_keeps, item_rows}
 use Rattle.markdown_builder.proofs.ShownStepsLemmas.{appended_shown}
-use Rattle.markdown_builder.proofs.OpenRowsLemmas.{item_rows}
 use Rattle.markdown_builder.proofs.builder.Builder.mark.Goals as goal
 
 pub invariant_of-self-2 : goal.invariant_of-self-2

@@ -3,10 +3,10 @@ use Rattle.std.proofs.Common.{ap, refl}
 use Rattle.markdown_base.specs.Forest.{nil}
 use Rattle.markdown_builder.specs.Standing.{standpoint}
 use Rattle.markdown_builder.specs.Shown.{stored_parts}
-use Rattle.markdown_builder.proofs.BodiesLemmas.{same_parts}
-use Rattle.markdown_builder.proofs.CallLemmas.{open_keeps, refused_keeps}
+use Rattle.markdown_builder.proofs.NodeWriteLemmas.{same_parts}
+use Rattle.markdown_builder.proofs.CallLemmas.{open_keeps, refused_keeps, block_rows, in_no_table, plain_no_table}
+use Rattle.markdown_builder.proofs.CallLemmas.{refused_rows}
 use Rattle.markdown_builder.proofs.ShownStepsLemmas.{opened_shown}
-use Rattle.markdown_builder.proofs.OpenRowsLemmas.{block_rows, in_no_table, plain_no_table, refused_rows}
 use Rattle.markdown_builder.proofs.builder.Builder.open.Goals as goal
 
 pub invariant_of-self : goal.invariant_of-self

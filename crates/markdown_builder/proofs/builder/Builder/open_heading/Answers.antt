@@ -6,11 +6,10 @@ use Rattle.markdown_base.specs.declared.item.ItemBody.TheVariants as body
 use Rattle.markdown_base.specs.HeadingWords.{words_of}
 use Rattle.markdown_builder.specs.Standing.{standpoint}
 use Rattle.markdown_builder.specs.Shown.{Parts, stored_parts}
-use Rattle.markdown_builder.proofs.BodiesLemmas.{heading_placed}
-use Rattle.markdown_builder.proofs.CallLemmas.{placed_keeps, refused_keeps}
-use Rattle.markdown_builder.proofs.ShownStepsLemmas.{more_headings}
-use Rattle.markdown_builder.proofs.ShownStepsLemmas.{length_snoc, map_snoc, opened_shown, stored_named}
-use Rattle.markdown_builder.proofs.OpenRowsLemmas.{block_rows, refused_rows}
+use Rattle.markdown_builder.proofs.NodeWriteLemmas.{heading_placed}
+use Rattle.markdown_builder.proofs.CallLemmas.{placed_keeps, refused_keeps, block_rows, refused_rows}
+use Rattle.markdown_builder.proofs.ShownStepsLemmas.{get_of_more, more_shown, length_snoc, map_snoc, opened_shown}
+use Rattle.markdown_builder.proofs.ShownStepsLemmas.{stored_named}
 use Rattle.markdown_builder.proofs.builder.Builder.open_heading.Goals as goal
 
 pub invariant_of-self-in_err-enter : goal.invariant_of-self-in_err-enter
@@ -25,8 +24,9 @@ invariant_of-self-in_err-enter c =
           (record { texts = omega arith; alignments = omega arith; attributes = omega (arith, longer) })
           c.in_err-enter.ensures.refused),
       rw (c.in_err-enter.ensures.stays, map_snoc words_of _ _ c.in_ok-push.ensures.items)
-          (refused_rows more b.blocks.items b.tree c.enter.new.tree b.at _ (more_headings parts (words ∷ []) _ named)
-          c.self.invariant.0.laid c.in_err-enter.ensures.refused c.self.invariant.1),
+          (refused_rows more b.blocks.items b.tree c.enter.new.tree b.at _
+          (more_shown parts more _ (search (arith, get_of_more)) named) c.self.invariant.0.laid
+          c.in_err-enter.ensures.refused c.self.invariant.1),
     )
 
 pub invariant_of-self-2 : goal.invariant_of-self-2
@@ -40,7 +40,7 @@ invariant_of-self-2 c = let b = c.self.inside in
     let last : ix.0 ≡ length c.push.new.self.items =
     omega (arith, longer, c.len.ensures, b.headings.ok.0, c.in_ok-ix.ensures.value) in
     let levels = opened_shown parts more _ c.in_ok-enter.ensures.entered c.self.invariant.0.laid
-    (more_headings parts (words ∷ []) _ named) in (
+    (more_shown parts more _ (search (arith, get_of_more)) named) in (
       rw (c.in_ok-enter.ensures.entered, c.in_ok-enter.ensures.opened) (placed_keeps (standpoint c.args.self.now) _
           (body.Heading c.args.level (Some ix)) c.self.invariant.0 (ap standpoint c.self.view_is) c.requires
           (heading_placed _ _ c.args.level ix last longer refl refl) refl),
@@ -58,6 +58,6 @@ returns c =
     omega (arith, count, c.len.ensures, b.headings.ok.0, c.in_ok-ix.ensures.value) in
     let named = stored_named b.cows.items b.headings.items b.alignments.items b.tree c.self.invariant.0.stands.nodes in
     let levels = opened_shown parts more _ c.in_ok-enter.ensures.entered c.self.invariant.0.laid
-    (more_headings parts (words ∷ []) _ named) in
+    (more_shown parts more _ (search (arith, get_of_more)) named) in
     let headings = map_snoc words_of _ _ c.in_ok-push.ensures.items in
     rw (← c.self.view_is) (c.in_ok-ix.ix, number, rw (c.in_ok-enter.ensures.opened, headings, levels) refl)

@@ -8,11 +8,10 @@ use Rattle.markdown_base.specs.declared.item.ItemBody.TheVariants as body
 use Rattle.markdown_base.specs.declared.tag.Alignment.{Alignment}
 use Rattle.markdown_builder.specs.Standing.{standpoint}
 use Rattle.markdown_builder.specs.Shown.{Parts, stored_parts}
-use Rattle.markdown_builder.proofs.BodiesLemmas.{table_placed}
-use Rattle.markdown_builder.proofs.CallLemmas.{placed_keeps, refused_keeps}
-use Rattle.markdown_builder.proofs.ShownStepsLemmas.{more_alignments}
-use Rattle.markdown_builder.proofs.ShownStepsLemmas.{get_last, length_snoc, map_snoc, opened_shown, stored_named}
-use Rattle.markdown_builder.proofs.OpenRowsLemmas.{block_rows, more_listed_rows, refused_rows}
+use Rattle.markdown_builder.proofs.NodeWriteLemmas.{table_placed}
+use Rattle.markdown_builder.proofs.CallLemmas.{placed_keeps, refused_keeps, block_rows, more_listed_rows, refused_rows}
+use Rattle.markdown_builder.proofs.ShownStepsLemmas.{get_of_more, more_shown, get_last, length_snoc, map_snoc}
+use Rattle.markdown_builder.proofs.ShownStepsLemmas.{opened_shown, stored_named}
 use Rattle.markdown_builder.proofs.builder.Builder.open_table.Goals as goal
 
 abbrev items : Vec Alignment Global → List Alignment
@@ -31,8 +30,9 @@ invariant_of-self-in_err-enter c =
           (record { texts = omega arith; alignments = omega (arith, longer); attributes = omega arith })
           c.in_err-enter.ensures.refused),
       rw (c.in_err-enter.ensures.stays, map_snoc items _ _ c.in_ok-push.ensures.items)
-          (refused_rows more b.blocks.items b.tree c.enter.new.tree b.at _ (more_alignments parts (table ∷ []) _ named)
-          c.self.invariant.0.laid c.in_err-enter.ensures.refused kept),
+          (refused_rows more b.blocks.items b.tree c.enter.new.tree b.at _
+          (more_shown parts more _ (search (arith, get_of_more)) named) c.self.invariant.0.laid
+          c.in_err-enter.ensures.refused kept),
     )
 
 pub invariant_of-self-2 : goal.invariant_of-self-2
@@ -49,7 +49,7 @@ invariant_of-self-2 c = let b = c.self.inside in
     ap (λ n. slice_get (parts.alignments ++ table ∷ []) n) (last ∙ sym (length-map b.alignments.items items))
     ∙ get_last parts.alignments table in
     let levels = opened_shown parts more _ c.in_ok-enter.ensures.entered c.self.invariant.0.laid
-    (more_alignments parts (table ∷ []) _ named) in (
+    (more_shown parts more _ (search (arith, get_of_more)) named) in (
       rw (c.in_ok-enter.ensures.entered, c.in_ok-enter.ensures.opened) (placed_keeps (standpoint c.args.self.now) _
           (body.Table ix) c.self.invariant.0 (ap standpoint c.self.view_is) c.requires
           (table_placed _ _ ix last longer refl refl) refl),
@@ -66,7 +66,7 @@ returns c =
     let number : c.len.result ≡ length parts.alignments = omega (arith, count, c.len.ensures, b.alignments.ok.0) in
     let named = stored_named b.cows.items b.headings.items b.alignments.items b.tree c.self.invariant.0.stands.nodes in
     let levels = opened_shown parts more _ c.in_ok-enter.ensures.entered c.self.invariant.0.laid
-    (more_alignments parts (table ∷ []) _ named) in
+    (more_shown parts more _ (search (arith, get_of_more)) named) in
     let alignments = map_snoc items _ _ c.in_ok-push.ensures.items in
     rw (← c.self.view_is)
     (record { 0 = c.len.result }, number, rw (c.in_ok-enter.ensures.opened, alignments, levels) refl)

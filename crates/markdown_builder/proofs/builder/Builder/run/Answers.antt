@@ -2,9 +2,8 @@
 use Rattle.std.proofs.Common.{ap, refl, ◌-◌}
 use Rattle.markdown_builder.specs.Standing.{standpoint}
 use Rattle.markdown_builder.specs.Shown.{stored_parts}
-use Rattle.markdown_builder.proofs.CallLemmas.{RunMayCome, run_nodes, run_refused, run_keeps}
+use Rattle.markdown_builder.proofs.CallLemmas.{RunMayCome, run_nodes, run_refused, run_keeps, run_rows, texts_rows}
 use Rattle.markdown_builder.proofs.ShownStepsLemmas.{run_shown_too}
-use Rattle.markdown_builder.proofs.OpenRowsLemmas.{run_rows, texts_rows}
 use Rattle.markdown_builder.proofs.builder.Builder.run.Goals as goal
 
 pub invariant_of-self : goal.invariant_of-self

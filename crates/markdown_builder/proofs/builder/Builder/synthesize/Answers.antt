@@ -1,24 +1,23 @@
 -- The item is appended, or only its text was kept.
 use Rattle.markdown_builder.proofs.StepLemmas.{more_parts}
-use Rattle.std.proofs.Common.{◌≡◌, [], ◌∷◌, length, sym, ap, refl, ◌∙◌}
+use Rattle.std.proofs.Common.{arith, ◌≡◌, [], ◌∷◌, ◌++◌, length, sym, ap, refl, ◌∙◌}
 use Rattle.std.proofs.lemmas.List.{length-map}
 use Rattle.markdown_base.specs.CowText.{text_of}
 use Rattle.markdown_builder.specs.Standing.{standpoint}
-use Rattle.markdown_builder.specs.Shown.{stored_parts}
-use Rattle.markdown_builder.proofs.CallLemmas.{synthesize_keeps, one_more_text}
-use Rattle.markdown_builder.proofs.ShownStepsLemmas.{map_snoc, stored_named, text_shown_too}
-use Rattle.markdown_builder.proofs.OpenRowsLemmas.{item_rows}
-use Rattle.markdown_builder.proofs.ShownStepsLemmas.{more_texts}
+use Rattle.markdown_builder.specs.Shown.{Parts, stored_parts}
+use Rattle.markdown_builder.proofs.CallLemmas.{synthesize_keeps, one_more_text, item_rows}
+use Rattle.markdown_builder.proofs.ShownStepsLemmas.{get_of_more, more_shown, map_snoc, stored_named, text_shown_too}
 use Rattle.markdown_builder.proofs.builder.Builder.synthesize.Goals as goal
 
 pub invariant_of-self-in_err-append : goal.invariant_of-self-in_err-append
 invariant_of-self-in_err-append c =
     let b = c.self.inside in let parts = stored_parts b.cows.items b.headings.items b.alignments.items in
     let texts = map_snoc text_of _ _ c.in_ok-ix.ensures.pushed in
+    let more : Parts = record parts { texts = parts.texts ++ text_of c.args.text ∷ [] } in
     let kept = stored_named b.cows.items b.headings.items b.alignments.items b.tree c.self.invariant.0.stands.nodes in (
       rw c.in_err-append.ensures.refused (more_parts _ _ (one_more_text _ _ (c.in_ok-ix.ensures.more, refl, refl))
           c.self.invariant.0),
-      rw (c.in_err-append.ensures.refused, texts, more_texts parts (text_of c.args.text ∷ []) _ kept)
+      rw (c.in_err-append.ensures.refused, texts, more_shown parts more _ (search (arith, get_of_more)) kept)
           c.self.invariant.1,
     )
 

@@ -2,9 +2,9 @@
 use Rattle.std.proofs.Common.{◌≡◌, List, [], Ok, Option, Some, map, ap, inl}
 use Rattle.markdown_heading_ids.specs.HeadingIdsNext.{SourceItem, item_seen}
 use Rattle.markdown_heading_ids.specs.HeadingIdsState.{ids_state}
-use Rattle.markdown_heading_ids.proofs.HeadingReadLemmas.{gives_kept, nothing_kept, nothing_popped, passes_error}
-use Rattle.markdown_heading_ids.proofs.HeadingReadLemmas.{passes_event}
+use Rattle.markdown_heading_ids.proofs.HeadingReadLemmas.{gives_kept, passes_error, passes_event}
 use Rattle.markdown_heading_ids.proofs.adapter.HeadingIdsIterator.next.Goals as goal
+use Rattle.markdown_base.proofs.OptionLemmas.{nothing_popped, nothing_kept}
 
 seen : (xs : List SourceItem) → xs ≡ [] → map item_seen xs ≡ []
 seen xs none = ap (λ (ys : List SourceItem). map item_seen ys) none
