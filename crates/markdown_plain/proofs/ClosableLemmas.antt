@@ -1,64 +1,39 @@
 -- Calls that end a paragraph and close blocks fit; and lines of which the first ones were taken as definitions.
 use Rattle.std.proofs.Common.{◌≡◌, ℕ, zero, suc, ◌+◌, ◌-◌, ◌<◌, ◌≤◌, Bool, true, false, List, [], ◌∷◌, ◌++◌, Option}
 use Rattle.std.proofs.Common.{Some, None, length, length-append, drop, take, slice_range, reverse, ⊎_elim, refl, sym}
-use Rattle.std.proofs.Common.{ap, ◌∙◌, subst, arith}
-use Rattle.std.specs.Prelude.{get_or, slice_get, slice_index, ◌==◌, ◌&&◌, ◌||◌, ◌%◌, if◌then◌else◌, nat_lt, MatchOption}
-use Rattle.std.specs.Str.{IsCharBoundary, IsUtf8}
-use Rattle.std.specs.List.{prefix_len, suffix_len}
-use Rattle.std.proofs.lemmas.Bool.{and_parts, cases_lt, true≢false}
-use Rattle.std.proofs.lemmas.Bool.Decides.{nat_tests}
-use Rattle.std.proofs.lemmas.List.{get_or-drop, get_or-reverse, drop-drop, length-drop, take_all}
-use Rattle.std.proofs.lemmas.List.Sums.{prefix_len_passes}
-use Rattle.std.proofs.lemmas.Option.{same_Some, slice_get-get_or, slice_get_within}
-use Rattle.std.proofs.lemmas.Str.{IsCharBoundary-after_ascii, IsCharBoundary-before_ascii}
-use Rattle.std.specs.Option.{option_map_or}
-use Rattle.std.proofs.Math.Bool.{and-false}
-use Rattle.markdown_base.specs.Bytes.{close_bracket, open_bracket}
-use Rattle.markdown_base.specs.declared.item.ItemBody.{ItemBody}
-use Rattle.markdown_base.specs.declared.tag.HeadingLevel.{HeadingLevel}
-use Rattle.markdown_base.specs.Forest.{Forest}
+use Rattle.std.proofs.Common.{ap, ◌∙◌, subst, arith, get_or, slice_get, slice_index, ◌==◌, ◌%◌, if◌then◌else◌}
+use Rattle.std.proofs.Common.{nat_lt, MatchOption, IsCharBoundary, IsUtf8, true≢false, get_or-drop, drop-drop}
+use Rattle.std.proofs.Common.{length-drop, take_all, drop-cons}
+use Rattle.markdown_plain.proofs.Names.{prefix_len, suffix_len, or_parts, cases_lt, nat_tests, prefix_len_passes}
+use Rattle.markdown_plain.proofs.Names.{get_or_from_slice_get, same_Some, slice_get-get_or, slice_get_within}
+use Rattle.markdown_plain.proofs.Names.{IsCharBoundary-after_ascii, IsCharBoundary-before_ascii, option_map_or}
+use Rattle.markdown_plain.proofs.Names.{and-false, ItemBody, HeadingLevel, Forest, BuilderView, Opens, is_table_row}
+use Rattle.markdown_plain.proofs.Names.{OpenBlock, Shown, Line, AreHeldFrom, AllPass, is_in_blank_line, is_space_or_tab}
+use Rattle.markdown_plain.proofs.Names.{task_marker, HeldLine, Braces, is_container, outer_of, AreInOrder}
+use Rattle.markdown_plain.proofs.Names.{AreInParagraph, has_paragraph, end_of, lines_end, past, Pass, AreAhead}
+use Rattle.markdown_plain.proofs.Names.{AreApart, AreClosable, AreInText, has_quote, leaf_end, IsInText, MayStep}
+use Rattle.markdown_plain.proofs.Names.{GoesOn, closed, stepped, EndsTo}
+use Rattle.std.proofs.lemmas.List.{get_or-reverse}
 use Rattle.markdown_builder.specs.Bodies.{is_leaf}
-use Rattle.markdown_builder.specs.BuilderView.{BuilderView, Opens, innermost_block, Definition}
-use Rattle.markdown_builder.specs.EvenRows.{is_in_row, is_table_row}
-use Rattle.markdown_builder.specs.declared.open_block.OpenBlock.{OpenBlock}
-use Rattle.markdown_builder.specs.Shown.{Shown}
+use Rattle.markdown_builder.specs.BuilderView.{Definition}
+use Rattle.markdown_builder.specs.EvenRows.{is_in_row}
 use Rattle.markdown_lines.specs.LineBreaks.{IsLineBreak}
 use Rattle.markdown_lines.specs.declared.line_break.LineBreak.{LineBreak}
-use Rattle.markdown_lines.specs.declared.line.Line.{Line}
 use Rattle.markdown_lines.proofs.HeldLinesLemmas.{line_of}
-use Rattle.markdown_lines.specs.HeldLines.{AreHeldFrom}
-use Rattle.markdown_lines.specs.Lines.{AllPass, is_in_blank_line, is_space_or_tab}
-use Rattle.markdown_lines.specs.TaskMarkers.{is_task_done, is_task_space, task_length, task_marker}
-use Rattle.markdown_lines.specs.declared.held_line.HeldLine.{HeldLine}
-use Rattle.markdown_lines.specs.declared.braces.Braces.{Braces}
-use Rattle.markdown_plain.specs.Containers.{is_container}
-use Rattle.markdown_plain.specs.OpenBlocks.{innermost_is, is_list, is_quote, outer_of, room_in, without_leaf}
-use Rattle.markdown_plain.specs.OpenBlocks.{without_list}
-use Rattle.markdown_plain.specs.HeldSources.{AreInOrder, AreInParagraph}
-use Rattle.markdown_plain.specs.Paragraphs.{has_paragraph, end_of, lines_end, past}
-use Rattle.markdown_plain.specs.declared.pass.Pass.{Pass}
+use Rattle.markdown_lines.specs.TaskMarkers.{is_task_space, task_length}
+use Rattle.markdown_plain.specs.OpenBlocks.{innermost_is, is_list, is_quote, without_list}
 use Rattle.markdown_plain.specs.declared.paragraph.Ends.{Ends}
-use Rattle.markdown_plain.specs.Closable.{AreAhead, AreApart, AreClosable, AreContainers, AreInText, has_quote}
-use Rattle.markdown_plain.specs.Closable.{leaf_end, HasBraces, HasRoomFor, HasTask, HaveTask, IsInList, IsPlaceable}
-use Rattle.markdown_plain.specs.Closable.{IsInText, IsLastInText, IsLeafOpen, IsWhiteBefore}
-use Rattle.markdown_plain.specs.Fitting.{GoesOn, OpensHeading, closed, IsAhead, IsWhiteOutside, defining, stepped}
+use Rattle.markdown_plain.specs.Closable.{AreContainers, HasBraces, HasRoomFor, HasTask, HaveTask, IsPlaceable}
+use Rattle.markdown_plain.specs.Closable.{IsLastInText, IsLeafOpen}
+use Rattle.markdown_plain.specs.Fitting.{OpensHeading, IsAhead, IsWhiteOutside, defining}
 use native.Mathlib.Numerals.{unary_clauses}
-use Rattle.markdown_plain.specs.ParagraphSteps.{EndsTo, TakesLines}
-use Rattle.markdown_base.specs.declared.item.ItemBody.TheVariants as body
+use Rattle.markdown_plain.specs.ParagraphSteps.{TakesLines}
 use Rattle.markdown_plain.proofs.DefinitionsLemmas.{IsSpanIn, MayCut}
 use Rattle.markdown_plain.proofs.LeafTreesLemmas.{on_test, innermost_of_opened, last_apart}
-use Rattle.markdown_plain.proofs.ParagraphTreesLemmas.{if_some, marker_within, range_byte, range_length}
+use Rattle.markdown_plain.proofs.ParagraphTreesLemmas.{has_marker, marker_within, range_byte, range_length}
+use Rattle.markdown_base.specs.declared.item.ItemBody.TheVariants as body
 
 -- ---- calls that fit
-
--- where a leaf is open, no call is outside blocks
-pub inside_leaf : (builder : BuilderView) (to : ℕ) → IsLeafOpen builder → IsWhiteOutside builder to
-inside_leaf builder to is none = absurd (is.some none)
-
--- a leaf stays open
-pub still_open : (old new : BuilderView) → new.leaf ≡ old.leaf → new.blocks ≡ old.blocks → IsLeafOpen old
-    → IsLeafOpen new
-still_open old new leaf blocks is = record { leaf = cc; some = λ none. is.some (cc) }
 
 -- a byte offset is ahead of where a builder is now
 pub ahead_of : (text : List ℕ) (at to : ℕ) (builder : BuilderView) → builder.text ≡ text → builder.at ≡ at → at ≤ to
@@ -66,16 +41,6 @@ pub ahead_of : (text : List ℕ) (at to : ℕ) (builder : BuilderView) → build
 ahead_of text at to builder same here low boundary = (omega (arith, here, low), rw same boundary)
 
 -- ---- a task marker
-
-small_space : (byte : ℕ) → is_task_space byte ≡ true → byte < 128
-small_space byte e = grind (arith, nat_tests, e)
-
--- white space follows a task marker
-has_parted : (bytes : List ℕ) (done : Bool) → task_marker bytes ≡ Some done → is_task_space (slice_index bytes 3) ≡ true
-has_parted bytes done e =
-    let test = if_some ((slice_index bytes 0 == open_bracket) && (slice_index bytes 2 == close_bracket)
-    && is_task_space (slice_index bytes 3)) (is_task_done (slice_index bytes 1)) done e in
-    (and_parts _ _ test.0).1
 
 -- the byte offsets after a task marker, and after the white space that follows it
 pub record IsPastTask (text : List ℕ) (line : HeldLine) : Type 0 where
@@ -86,8 +51,7 @@ pub record IsPastTask (text : List ℕ) (line : HeldLine) : Type 0 where
 
 task_space_at : (bytes : List ℕ) (k : ℕ) → 3 ≤ k → k < task_length bytes → is_task_space (get_or bytes k 0) ≡ true
 task_space_at bytes k low less =
-    let place : 3 + (k - 3) ≡ k = omega (arith, low) in
-    let there = get_or-drop 3 bytes (k - 3) 0 in
+    let place : 3 + (k - 3) ≡ k = omega (arith, low) in let there = get_or-drop 3 bytes (k - 3) 0 in
     let passes = prefix_len_passes is_task_space (drop 3 bytes) (k - 3) 0 (omega (arith, low, less)) in
     rw place at (rw there at passes)
 
@@ -99,14 +63,13 @@ some_space bytes long e = absurd (omega (arith, long))
 pub past_task : (text : List ℕ) (line : HeldLine) (done : Bool) → IsUtf8 text → IsInText text line
     → task_marker (slice_range text line.start line.stop) ≡ Some done → IsPastTask text line
 past_task text line done utf8 is e =
-    let bytes = slice_range text line.start line.stop in
-    let n = task_length bytes in
-    let inside = marker_within bytes done e in
-    let size = range_length text line.start line.stop is.stop.0 in
-    let some = some_space bytes inside.0 (has_parted bytes done e) in
+    let bytes = slice_range text line.start line.stop in let n = task_length bytes in
+    let inside = marker_within bytes done e in let size = range_length text line.start line.stop is.stop.0 in
+    let some = some_space bytes inside.0 (has_marker bytes done e).3 in
     let byte : (k : ℕ) → 3 ≤ k → k < n → get_or text (line.start + k) 0 < 128 = λ k low less.
-    rw (range_byte text line.start line.stop k (omega (arith, less, inside, size))) at
-    (small_space (get_or bytes k 0) (task_space_at bytes k low less)) in
+    let space = task_space_at bytes k low less in
+    let small : get_or bytes k 0 < 128 = grind (arith, nat_tests, space) in
+    rw (range_byte text line.start line.stop k (omega (arith, less, inside, size))) at small in
     let last : (line.start + (n - 1)) + 1 ≡ line.start + n = omega (arith, some) in
     record {
       three = omega arith;
@@ -140,36 +103,19 @@ pub break_in : (text : List ℕ) (from stop : ℕ) (between : LineBreak) → IsC
     → IsLineBreak text from stop between → IsBreakIn text from stop between
 break_in text from stop between boundary ordered is =
     rw is.value (on_test (IsBreakIn text from stop) ((stop - is.backslashes) % 2 == 1)
-    (record { text_end = stop - 1; start = stop - 1; body = body.HardBreak true }) _
-    (λ odd.
+    (record { text_end = stop - 1; start = stop - 1; body = body.HardBreak true }) _ (λ odd.
     let some : is.backslashes < stop = odd_some stop is.backslashes odd in
     let slash = is.backslash_run.passes (stop - 1) (omega (arith, some)) (omega (arith, some)) in
     let cut = IsCharBoundary-before_ascii text (stop - 1) (omega (arith, boundary.0, some))
     (grind (arith, nat_tests, slash)) in
-    record {
-      low = omega (arith, is.backslash_run.low, some);
-      ordered = omega arith;
-      high = omega arith;
-      end = cut;
-      start = cut;
-    })
+    let low : from ≤ stop - 1 = omega (arith, is.backslash_run.low, some) in
+    record { low = low; ordered = omega arith; high = omega arith; end = cut; start = cut })
     (λ even. on_test (IsBreakIn text from stop) (nat_lt (stop - is.spaces) 2)
     (record { text_end = is.content; start = stop; body = body.SoftBreak })
-    (record { text_end = is.content; start = is.spaces; body = body.HardBreak false })
-    (λ few. record {
-      low = is.content_run.low;
-      ordered = omega (arith, is.content_run.high, is.space_run.high);
-      high = omega arith;
-      end = is.content_run.boundary;
-      start = boundary;
-    })
-    (λ many. record {
-      low = is.content_run.low;
-      ordered = is.content_run.high;
-      high = is.space_run.high;
-      end = is.content_run.boundary;
-      start = is.space_run.boundary;
-    })))
+    (record { text_end = is.content; start = is.spaces; body = body.HardBreak false }) (λ few.
+    let ordered : is.content ≤ stop = omega (arith, is.content_run.high, is.space_run.high) in
+    let high : stop ≤ stop = omega arith in assumption (ordered, high, is.content_run, boundary))
+    (λ many. assumption (is.content_run, is.space_run))))
   where
     odd_some : (stop from : ℕ) → ((stop - from) % 2 == 1) ≡ true → from < stop
     odd_some stop from odd = ⊎_elim (λ (less : from < stop). less) (λ (most : stop ≤ from).
@@ -180,8 +126,7 @@ break_in text from stop between boundary ordered is =
 pub end_passes : (test : ℕ → Bool) (bytes : List ℕ) (k : ℕ) → length bytes - suffix_len test bytes ≤ k
     → k < length bytes → test (get_or bytes k 0) ≡ true
 end_passes test bytes k low less =
-    let back = length bytes - 1 - k in
-    let place : length bytes - 1 - back ≡ k = omega (arith, less) in
+    let back = length bytes - 1 - k in let place : length bytes - 1 - back ≡ k = omega (arith, less) in
     let there = get_or-reverse bytes back 0 (omega (arith, less)) in
     let passes = prefix_len_passes test (reverse bytes) back 0 (omega (arith, low, less)) in
     rw place at (rw there at passes)
@@ -204,40 +149,26 @@ trimmed text line n is e =
       boundary = ⊎_elim (λ (less : n < length bytes).
           let space = end_passes is_space_or_tab bytes n (omega (arith, e)) less in
           let byte = range_byte text line.start line.stop n (omega (arith, less, size)) in
-          IsCharBoundary-before_ascii text (line.start + n) (omega (arith, less, size, is.stop.0))
-          (small_white (get_or text (line.start + n) 0) (rw byte at space)))
+          let small : get_or bytes n 0 < 128 = grind (arith, nat_tests, space) in
+          IsCharBoundary-before_ascii text (line.start + n) (omega (arith, less, size, is.stop.0)) (rw byte at small))
           (λ (all : length bytes ≤ n). ⊎_elim (λ (less : line.stop < line.start).
           subst (IsCharBoundary text) (omega (arith, e, size, less)) is.start)
           (λ (more : line.start ≤ line.stop). subst (IsCharBoundary text) (omega (arith, e, all, size, more)) is.stop)
           (cases_lt line.stop line.start)) (cases_lt n (length bytes));
     }
-  where
-    small_white : (byte : ℕ) → is_space_or_tab byte ≡ true → byte < 128
-    small_white byte e = grind (arith, nat_tests, e)
 
 -- ---- lines cut off at braces
 
-last_in_text : (text : List ℕ) (line : HeldLine) → IsInText text line → IsLastInText text line
-last_in_text text line is =
-    let begins : line.start ≤ line.next = omega (arith, is.content, is.ending) in assumption (begins)
-
--- braces are in what follows a task marker
-braces_of_rest : (text : List ℕ) (line rest : HeldLine) (braces : Option Braces) → rest.stop ≡ line.stop
-    → HasBraces text braces line → HasBraces text braces rest
-braces_of_rest text line rest None same has = tt
-braces_of_rest text line rest (Some braces) same has = (omega (arith, has.0, same), has.1)
-
-cut_in_text : (text : List ℕ) (line : HeldLine) (braces : Option Braces) → IsInText text line
-    → HasBraces text braces line
-    → IsLastInText text (record line { stop = option_map_or (λ braces. braces.opening) braces line.stop })
-cut_in_text text line None is has = last_in_text text line is
-cut_in_text text line (Some braces) is has = record {
-  begins = omega (arith, is.content, is.ending);
-  ending = omega (arith, has.0, is.ending);
-  start = is.start;
-  stop = has.1;
-  next = is.next;
-}
+-- braces are in what follows a task marker, as in the whole line
+pub cut_in_text : (text : List ℕ) (line rest : HeldLine) (braces : Option Braces) → rest.stop ≡ line.stop
+    → IsInText text rest → HasBraces text braces line
+    → IsLastInText text (record rest { stop = option_map_or (λ braces. braces.opening) braces rest.stop })
+cut_in_text text line rest None same is has =
+    let begins : rest.start ≤ rest.next = omega (arith, is.content, is.ending) in assumption (begins)
+cut_in_text text line rest (Some braces) same is has =
+    let begins : rest.start ≤ rest.next = omega (arith, is.content, is.ending) in
+    let ending : braces.opening ≤ rest.next = omega (arith, has.0, same, is.ending) in
+    assumption (begins, ending, has.1)
 
 -- ---- one line after another
 
@@ -253,21 +184,15 @@ pub record IsLineAt (text : List ℕ) (from : ℕ) (task : Option Bool) (lines :
 pub line_at : (text : List ℕ) (from : ℕ) (task : Option Bool) (lines : List HeldLine) (n : ℕ) (other : HeldLine)
     → n < length lines → AreInText text from (drop n lines) → HaveTask text task (drop n lines)
     → IsLineAt text from task lines n (get_or lines n other)
-line_at text from task [] n other less are has = absurd (omega (arith, less))
-line_at text from task (line ∷ lines) zero other less are has =
-    record { there = refl; low = are.0; is = are.1.0; marked = has; rest = are.1.1 }
-line_at text from task (line ∷ lines) (suc n) other less are has =
-    let found = line_at text from task lines n other (omega (arith, less)) are has in assumption (found)
-
--- the last line, without its task marker and its braces
-pub last_cut : (builder : BuilderView) (lines : List HeldLine) (n : ℕ) (ends : Ends) (line rest cut : HeldLine)
-    → n ≡ length lines - 1 → slice_get lines n ≡ Some line → HasRoomFor builder lines n ends → rest.stop ≡ line.stop
-    → IsInText builder.text rest
-    → cut ≡ record rest { stop = option_map_or (λ braces. braces.opening) ends.braces rest.stop }
-    → IsLastInText builder.text cut
-last_cut builder lines n ends line rest cut last there room same is e =
-    rw e (cut_in_text builder.text rest ends.braces is
-    (braces_of_rest builder.text line rest ends.braces same (room.braces line (rw last at there))))
+line_at text from task lines n other less are has =
+    let split = drop-cons lines n other less in let in_order = subst (AreInText text from) split are in
+    record {
+      there = slice_get-get_or lines n other less;
+      low = in_order.0;
+      is = in_order.1.0;
+      marked = subst (HaveTask text task) split has;
+      rest = in_order.1.1;
+    }
 
 -- there is room for the lines after a line that was appended
 pub room_after : (old new : BuilderView) (lines : List HeldLine) (n : ℕ) (ends : Ends) (other : HeldLine) (next : ℕ)
@@ -277,7 +202,7 @@ room_after old new lines n ends other next less room e goes =
     let t = line_at old.text old.at ends.task lines n other less room.order room.task in
     let one : suc n ≡ n + 1 = omega arith in
     rw goes (record {
-      inside = still_open old _ refl refl room.inside;
+      inside = record { leaf = room.inside.leaf; some = room.inside.some };
       order = rw (← one, e) t.rest;
       task = no_task old.text (drop (n + 1) lines);
       braces = room.braces;
@@ -289,10 +214,6 @@ room_after old new lines n ends other next less room e goes =
 
 -- ---- opening a paragraph or a heading
 
--- blocks inside others are some
-never_none : (outer : List OpenBlock) (block : OpenBlock) → outer ++ block ∷ [] ≡ [] → ⊥
-never_none outer block e = absurd (omega (arith, ap length e, length-append outer (block ∷ [])))
-
 -- the leaf of a text was opened, which is no row
 pub record IsTextOpened (old new : BuilderView) : Type 0 where
   pub text : new.text ≡ old.text
@@ -303,12 +224,12 @@ pub record IsTextOpened (old new : BuilderView) : Type 0 where
 opened_as : (old new : BuilderView) (b : ItemBody) → is_leaf b ≡ true → is_table_row b ≡ false → new.text ≡ old.text
     → new.at ≡ old.at → new.leaf ≡ is_leaf b → new.blocks ≡ old.blocks ++ record { start = old.at; body = b } ∷ []
     → IsTextOpened old new
-opened_as old new b leaf row text at now blocks = record {
-  text = text;
-  at = at;
-  inside = record { leaf = now ∙ leaf; some = λ none. never_none old.blocks _ (sym blocks ∙ none) };
-  other = rw (blocks, innermost_of_opened) row;
-}
+opened_as old new b leaf row text at now blocks =
+    let block : OpenBlock = record { start = old.at; body = b } in
+    let some : new.blocks ≡ [] → ⊥ =
+    λ none. omega (arith, ap length (sym blocks ∙ none), length-append old.blocks (block ∷ [])) in
+    let inside : IsLeafOpen new = record { leaf = now ∙ leaf; some = some } in
+    let other : is_in_row new.blocks ≡ false = rw (blocks, innermost_of_opened) row in assumption (inside, other)
 
 pub text_opened : (old new : BuilderView) (heading : Option (HeadingLevel × Line))
     → MatchOption heading (Opens old new body.Paragraph) (λ h. OpensHeading old new h.0) → IsTextOpened old new
@@ -323,29 +244,17 @@ pub record IsFirstLine (pass : Pass) (from : ℕ) (line : HeldLine) : Type 0 whe
   pub order : AreInText pass.placing.builder.text line.start (drop from pass.lines.items)
 
 -- lines in order from a byte offset on are in order from the first on, before which there may be white space only
-first_cut : (text : List ℕ) (at : ℕ) (lines : List HeldLine) (n : ℕ) (line : HeldLine) → n < length lines
-    → AreInText text at (drop n lines) → AreInText text (get_or lines n line).start (drop n lines)
-first_cut text at [] n line less are = absurd (omega (arith, less))
-first_cut text at (first ∷ lines) zero line less are = (omega arith, are.1)
-first_cut text at (first ∷ lines) (suc n) line less are = first_cut text at lines n line (omega (arith, less)) are
-
-first_apart : (text : List ℕ) (at : ℕ) (lines : List HeldLine) (n : ℕ) (line : HeldLine) → n < length lines
-    → AreApart text at (drop n lines) → AllPass is_in_blank_line text at (get_or lines n line).start
-first_apart text at [] n line less are = absurd (omega (arith, less))
-first_apart text at (first ∷ lines) zero line less are = are.0
-first_apart text at (first ∷ lines) (suc n) line less are = first_apart text at lines n line (omega (arith, less)) are
-
-pub first_line : (pass : Pass) (from : ℕ) (heading : Option (HeadingLevel × Line)) (line : HeldLine)
+pub first_line : {pass : Pass} {from : ℕ} {heading : Option (HeadingLevel × Line)} {line : HeldLine}
     → IsPlaceable pass from heading → line ≡ get_or pass.lines.items from line → IsFirstLine pass from line
-first_line pass from heading line is held =
-    let builder = pass.placing.builder in
-    let lines = pass.lines.items in
+first_line {pass} {from} {line = line} is held =
+    let builder = pass.placing.builder in let lines = pass.lines.items in
     let t = line_at builder.text builder.at _ lines from line is.some is.ahead.order is.task in
-    let here = ap (λ (l : HeldLine). l.start) held in
+    let split = drop-cons lines from line is.some in let here = ap (λ (l : HeldLine). l.start) held in
     record {
       ahead = rw here (t.low, t.is.start);
-      white = λ none. rw here (first_apart builder.text builder.at lines from line is.some (is.ahead.apart none));
-      order = rw here (first_cut builder.text builder.at lines from line is.some is.ahead.order);
+      white = λ none. rw here (subst (AreApart builder.text builder.at) split (is.ahead.apart none)).0;
+      order = rw here (subst (AreInText builder.text _) (sym split)
+          (omega arith, (subst (AreInText builder.text builder.at) split is.ahead.order).1));
     }
 
 -- ---- closing blocks
@@ -367,12 +276,13 @@ no_quote_apart : (outer : List OpenBlock) (block : OpenBlock) → has_quote oute
     → has_quote (outer ++ block ∷ []) ≡ false
 no_quote_apart [] block none other = rw other refl
 no_quote_apart (first ∷ outer) block none other =
-    neither (is_quote first.body) (has_quote outer) (has_quote (outer ++ block ∷ [])) none
-    (λ rest. no_quote_apart outer block rest other)
-  where
-    neither : (a b c : Bool) → (a || b) ≡ false → (b ≡ false → c ≡ false) → (a || c) ≡ false
-    neither true b c e then_c = absurd (true≢false e)
-    neither false b c e then_c = then_c e
+    let neither = or_parts (is_quote first.body) (has_quote outer) none in
+    rw (neither.0, no_quote_apart outer block neither.1 other) refl
+
+-- a test of the innermost block is one of the last
+innermost_tested : (test : ItemBody → Bool) (outer : List OpenBlock) (block : OpenBlock)
+    → innermost_is test (outer ++ block ∷ []) ≡ test block.body
+innermost_tested test outer block = rw (innermost_of_opened outer block) refl
 
 pub innermost_no_row : (blocks : List OpenBlock) → AreContainers blocks → is_in_row blocks ≡ false
 innermost_no_row [] are = refl
@@ -387,11 +297,9 @@ pub closed_here : (old new : BuilderView) (placed : ℕ) (levels : List (Forest 
     → new ≡ record (closed old levels) { at = if innermost_is is_quote old.blocks then placed else old.at }
     → AreClosable new placed
 closed_here old new placed levels is some e =
-    let p = last_apart old.blocks some in
-    let outer = outer_of old.blocks in
+    let p = last_apart old.blocks some in let outer = outer_of old.blocks in
     let apart = containers_apart outer p.block (subst AreContainers p.is is.containers) in
-    let inner : innermost_is is_quote old.blocks ≡ is_quote p.block.body =
-    ap (innermost_is is_quote) p.is ∙ rw (innermost_of_opened outer p.block) refl in
+    let inner = ap (innermost_is is_quote) p.is ∙ innermost_tested is_quote outer p.block in
     rw e (record {
       outside = refl;
       containers = apart.0;
@@ -405,32 +313,20 @@ closed_here old new placed levels is some e =
 
 -- ---- opening items
 
+-- a list is no block quote
 list_no_quote : (b : ItemBody) → is_list b ≡ true → is_quote b ≡ false
 list_no_quote (body.List tight character first) e = refl
 list_no_quote other e = absurd (true≢false (sym e))
 
--- a list is no block quote
-innermost_no_quote : (blocks : List OpenBlock) → innermost_is is_list blocks ≡ true
-    → innermost_is is_quote blocks ≡ false
-innermost_no_quote blocks e = found (innermost_block blocks) e
-  where
-    found : (block : Option OpenBlock) → option_map_or (λ (block : OpenBlock). is_list block.body) block false ≡ true
-        → option_map_or (λ (block : OpenBlock). is_quote block.body) block false ≡ false
-    found None e = absurd (true≢false (sym e))
-    found (Some block) e = list_no_quote block.body e
-
 -- where nothing but a list is open, no block quote is
-no_quote_left : (blocks : List OpenBlock) → without_list blocks ≡ [] → has_quote blocks ≡ false
+pub no_quote_left : (blocks : List OpenBlock) → without_list blocks ≡ [] → has_quote blocks ≡ false
 no_quote_left [] none = refl
 no_quote_left (first ∷ blocks) none =
-    let all : List OpenBlock = first ∷ blocks in
-    let some : all ≡ [] → ⊥ = λ e. absurd (omega (arith, ap length e)) in
+    let all : List OpenBlock = first ∷ blocks in let some : all ≡ [] → ⊥ = λ e. absurd (omega (arith, ap length e)) in
     let p = last_apart all some in
-    on_test (λ bs. bs ≡ [] → has_quote all ≡ false) (innermost_is is_list all) (outer_of all) all
-    (λ list e.
-    let last : innermost_is is_quote all ≡ is_quote p.block.body =
-    ap (innermost_is is_quote) p.is ∙ rw (innermost_of_opened (outer_of all) p.block) refl in
-    ap has_quote p.is ∙ no_quote_apart (outer_of all) p.block (ap has_quote e) (sym last ∙ innermost_no_quote all list))
+    on_test (λ bs. bs ≡ [] → has_quote all ≡ false) (innermost_is is_list all) (outer_of all) all (λ list e.
+    let last = sym (ap (innermost_is is_list) p.is ∙ innermost_tested is_list (outer_of all) p.block) ∙ list in
+    ap has_quote p.is ∙ no_quote_apart (outer_of all) p.block (ap has_quote e) (list_no_quote p.block.body last))
     (λ other e. absurd (some e)) none
 
 -- white space up to a byte offset, and from there on
@@ -439,28 +335,10 @@ pub white_both : (text : List ℕ) (from mid to : ℕ) → AllPass is_in_blank_l
 white_both text from mid to first second at low high =
     ⊎_elim (λ (less : at < mid). first at low less) (λ (more : mid ≤ at). second at more high) (cases_lt at mid)
 
--- the byte offset of a marker is ahead once blocks were closed, and in the list that was opened then
-pub item_ahead : (old new : BuilderView) (placed at : ℕ) → new.text ≡ old.text → AreClosable new placed → placed ≤ at
-    → IsCharBoundary old.text at → IsAhead new at
-item_ahead old new placed at text is low boundary = (omega (arith, is.low, low), rw text boundary)
-
-pub listed_ahead : (old new : BuilderView) (at : ℕ) → new.text ≡ old.text → IsCharBoundary old.text at → IsInList new at
-    → IsAhead new at
-listed_ahead old new at text boundary is = (is.low, rw text boundary)
-
-pub item_white : (old new : BuilderView) (placed at depth : ℕ) → new.text ≡ old.text
-    → new.blocks ≡ take depth (without_leaf old) → AreClosable new placed
-    → (room_in depth (without_leaf old) ≡ [] → AllPass is_in_blank_line old.text placed at)
-    → without_list new.blocks ≡ [] → IsWhiteBefore new at
-item_white old new placed at depth text blocks is white none =
-    white_both new.text new.at placed at (is.white (no_quote_left new.blocks none))
-    (rw text (white (sym (ap without_list blocks) ∙ none)))
-
 -- where no list is open, and nothing else either
 pub item_outside : (blocks : List OpenBlock) → innermost_is is_list blocks ≡ false → without_list blocks ≡ []
     → blocks ≡ []
-item_outside blocks other =
-    on_test (λ bs. bs ≡ [] → blocks ≡ []) (innermost_is is_list blocks) (outer_of blocks) blocks
+item_outside blocks other = on_test (λ bs. bs ≡ [] → blocks ≡ []) (innermost_is is_list blocks) (outer_of blocks) blocks
     (λ list. absurd (true≢false (sym list ∙ other))) (λ same none. none)
 
 -- ---- taking definitions
@@ -509,8 +387,7 @@ paragraph_after text (first ∷ lines) n line is there = in_order (first.start =
     in_order true zero is there = held_paragraph text first.next lines is
     in_order true (suc n) is there =
         held_paragraph text line.next (drop (suc n) lines) (line_of text first.next lines n line is there).others
-    in_order false n is there =
-        held_paragraph text line.next (drop (suc n) (first ∷ lines))
+    in_order false n is there = held_paragraph text line.next (drop (suc n) (first ∷ lines))
         (line_of text 0 (first ∷ lines) n line is there).others
 
 -- the lines after those that were taken are ahead of where the last of these ends
@@ -524,20 +401,15 @@ ahead_after old new lines n line is there text blocks at = record {
 }
 
 -- the calls that take an empty line
-pub record MayPass (builder : BuilderView) (line : HeldLine) : Type 0 where
-  pub ahead : IsAhead builder line.next
-  pub white : IsWhiteOutside builder line.next
-
 pub may_pass : (builder : BuilderView) (lines : List HeldLine) (line : HeldLine) → AreAhead builder lines
-    → slice_get lines 0 ≡ Some line → line.start ≡ line.stop → MayPass builder line
+    → slice_get lines 0 ≡ Some line → line.start ≡ line.stop → MayStep builder line.next
 may_pass builder [] line is there empty = cc
 may_pass builder (first ∷ lines) line is there empty =
     let here = same_Some first line there in
     rw (← here) (record {
       ahead = (omega (arith, is.order.0, is.order.1.0.content, is.order.1.0.ending), is.order.1.0.next);
       white = λ none.
-          let apart = is.apart none in
-          let same : first.start ≡ first.stop = rw here empty in
+          let apart = is.apart none in let same : first.start ≡ first.stop = rw here empty in
           white_both builder.text builder.at first.start first.next apart.0 (rw same apart.1.0);
     })
 
@@ -551,11 +423,11 @@ pub record MayDefine (builder : BuilderView) (first line : HeldLine) (end : ℕ)
   pub next : IsCharBoundary builder.text line.next
   pub left : AllPass is_in_blank_line builder.text end line.next
 
-pub may_define : (builder : BuilderView) (lines : List HeldLine) (first : HeldLine) (end count : ℕ)
+pub may_define : {builder : BuilderView} {lines : List HeldLine} {first : HeldLine} {end count : ℕ}
     → AreAhead builder lines → slice_get lines 0 ≡ Some first → (span : IsSpanIn builder.text lines end count)
     → MayDefine builder first span.line end
-may_define builder [] first end count is there span = cc
-may_define builder (head ∷ lines) first end count is there span =
+may_define {lines = []} is there span = cc
+may_define {builder} {lines = head ∷ lines} {first} is there span =
     let line = line_there builder.text head.start (head ∷ lines) span.number span.line
     (omega arith, is.order.1) span.there in
     rw (← same_Some head first there) (record {
@@ -568,20 +440,17 @@ may_define builder (head ∷ lines) first end count is there span =
       left = span.ends.white;
     })
 
-pub last_next : (lines : List HeldLine) (n count : ℕ) (line other : HeldLine) → count ≡ suc n
-    → slice_get lines n ≡ Some line → (get_or lines (count - 1) other).next ≡ line.next
-last_next lines n count line other is there =
-    let at : count - 1 ≡ n = omega (arith, is) in rw at (found lines n there)
-  where
-    found : (lines : List HeldLine) (n : ℕ) → slice_get lines n ≡ Some line → (get_or lines n other).next ≡ line.next
-    found [] n there = cc
-    found (first ∷ lines) zero there = cc
-    found (first ∷ lines) (suc n) there = found lines n there
+pub last_next : {text : List ℕ} {lines : List HeldLine} {end count : ℕ} (other : HeldLine)
+    (span : IsSpanIn text lines end count) → (get_or lines (count - 1) other).next ≡ span.line.next
+last_next {lines} {count} other span =
+    let at : count - 1 ≡ span.number = omega (arith, span.count_is) in
+    rw at (ap (λ (l : HeldLine). l.next) (get_or_from_slice_get lines span.number span.line other span.there))
 
--- only white space is ahead of where a builder is now
-pub white_ahead : (text : List ℕ) (at to : ℕ) (builder : BuilderView) → builder.text ≡ text → builder.at ≡ at
-    → AllPass is_in_blank_line text at to → IsWhiteOutside builder to
-white_ahead text at to builder same here white = λ none. rw (same, here) white
+-- a step fits where only white space is ahead of where a builder is now
+pub may_step_on : (text : List ℕ) (at to : ℕ) (builder : BuilderView) → builder.text ≡ text → builder.at ≡ at → at ≤ to
+    → IsCharBoundary text to → AllPass is_in_blank_line text at to → MayStep builder to
+may_step_on text at to builder same here low boundary white =
+    record { ahead = ahead_of text at to builder same here low boundary; white = λ none. rw (same, here) white }
 
 -- ---- where no lines are held back
 
@@ -668,9 +537,7 @@ past_end from (line ∷ lines) some = sym (past_is_end line lines)
 pub end_of_last : (lines : List HeldLine) (count : ℕ) (default : HeldLine) → 0 < count → count ≤ length lines
     → (get_or lines (count - 1) default).next ≡ end_of lines count
 end_of_last lines count default some few =
-    let last : count - 1 < length lines = omega (arith, some, few) in
-    ap (λ (line : Option HeldLine). option_map_or (λ line. line.next) line 0)
-    (sym (slice_get-get_or lines (count - 1) default last))
+    rw (slice_get-get_or lines (count - 1) default (omega (arith, some, few))) refl
 
 -- all were taken
 pub all_taken : {old new : BuilderView} {lines : List HeldLine} {taken : ℕ} → TakesLines old new lines taken

@@ -1,54 +1,43 @@
 -- Open containers that are closed, where the blocks are the same, and blocks that are appended in the innermost open
 -- container.
 use Rattle.std.proofs.Common.{◌≡◌, ◌∙◌, ℕ, Bool, true, false, List, [], ◌∷◌, Option, Some, None, refl, sym, ap}
-use Rattle.std.proofs.Common.{true≢false, zero, suc, ◌-◌, ◌<◌, ◌≤◌, ◌++◌, not, length, take, drop, length-take-le}
-use Rattle.std.proofs.Common.{arith, subst, append_assoc, append-nil}
-use Rattle.std.specs.Prelude.{if◌then◌else◌, slice_get}
+use Rattle.std.proofs.Common.{true≢false, zero, suc, ◌-◌, ◌<◌, ◌≤◌, ◌++◌, not, length, arith, subst, append_assoc}
+use Rattle.std.proofs.Common.{append-nil, length-append}
+use Rattle.markdown_plain.proofs.Names.{same_Some, Forest, nil, node, HeadingLevel, Shown, plain_item, settled_below}
+use Rattle.markdown_plain.proofs.Names.{shown_item, followed_by, with_trees, Source, SourceLine, divided, divided_in}
+use Rattle.markdown_plain.proofs.Names.{Braces, entity_names, Block, Kind, Around, block_end, last_braces, shown_block}
+use Rattle.markdown_plain.proofs.Names.{shown_blocks, shown_heading, shown_over, is_blank_block, is_loose}
+use Rattle.markdown_plain.proofs.Names.{definitions_in, footnotes_in, label_of, paragraph_lines, AreItemsInLists}
+use Rattle.markdown_plain.proofs.Names.{MayBeIn, is_list, AreNested, Frame, forgotten, innermost_is, is_quote, rebuilt}
+use Rattle.markdown_plain.proofs.Names.{room_depth, outer_within, closed_in, ItemBody, OpenBlock, BuilderView}
+use Rattle.markdown_plain.proofs.Names.{innermost_block, parts_of, followed_by-assoc, followed_by-nil, Pass, PutsBlock}
+use Rattle.markdown_plain.proofs.Names.{closed, stepped, outer_of, AreOpen, IsBodyOf, IsLooseAs, around_in, placed_end}
+use Rattle.markdown_plain.proofs.Names.{IsBuilt, around_innermost, nat_tests}
+use Rattle.std.specs.Prelude.{if◌then◌else◌, slice_get, nat_lt}
 use Rattle.std.specs.Option.{option_map}
-use Rattle.std.proofs.lemmas.Option.{same_Some}
-use Rattle.markdown_base.specs.Forest.{Forest, nil, node}
-use Rattle.markdown_base.specs.declared.tag.HeadingLevel.{HeadingLevel}
-use Rattle.markdown_builder.specs.Shown.{Shown, tight_shown, Parts, plain_item, settled_below, shown_item, with_block}
-use Rattle.markdown_builder.specs.TreeLevels.{followed_by, items_changed, roots_changed, with_trees}
-use Rattle.markdown_base.specs.Source.{Source}
-use Rattle.markdown_lines.specs.SourceLines.{SourceLine}
-use Rattle.markdown_lines.specs.DefinitionRules.{divided, divided_in}
-use Rattle.markdown_lines.specs.declared.braces.Braces.{Braces}
-use Rattle.markdown_scan.specs.Entity.{entity_names}
-use Rattle.markdown_block_rules.specs.BlockGrowth.{Block, Kind}
-use Rattle.markdown_block_rules.specs.BlockRules.{Around, block_end, in_no_item, last_braces, last_end, shown_block}
-use Rattle.markdown_block_rules.specs.BlockRules.{shown_blocks, shown_heading, shown_over, shown_setext, shown_text}
-use Rattle.markdown_block_rules.specs.BlockRules.{is_blank_block, is_loose, definitions_in, footnotes_in, label_of}
-use Rattle.markdown_block_rules.specs.BlockRules.{paragraph_lines}
-use Rattle.markdown_plain.specs.Closing.{AreItemsInLists, MayBeIn, MayClose, StandsFor}
-use Rattle.markdown_plain.specs.Frames.{is_list, AreNested, Frame, forgotten, innermost_is, is_quote, rebuilt}
-use Rattle.markdown_plain.specs.Frames.{room_depth}
-use Rattle.markdown_base.specs.declared.item.ItemBody.{ItemBody}
-use Rattle.markdown_builder.specs.declared.open_block.OpenBlock.{OpenBlock}
-use Rattle.markdown_builder.specs.BuilderView.{BuilderView, innermost_block, parts_of}
-use Rattle.markdown_builder.proofs.LaidLemmas.{followed_by-assoc, followed_by-nil}
-use Rattle.markdown_plain.specs.declared.pass.Pass.{Pass}
-use Rattle.markdown_plain.specs.Fitting.{HasBody, PutsBlock, closed, stepped}
-use Rattle.markdown_plain.specs.OpenBlocks.{outer_of}
-use Rattle.markdown_plain.specs.Settled.{AreOpen, IsBodyOf, IsLooseAs, IsOpen, QuotesEnd, around_in, levels_shown}
-use Rattle.markdown_plain.specs.Settled.{placed_end, IsAtEnd, IsBuilt}
-use Rattle.markdown_plain.specs.OpenedFrames.{around_innermost}
+use Rattle.markdown_builder.specs.Shown.{tight_shown, Parts}
+use Rattle.markdown_builder.specs.TreeLevels.{items_changed, roots_changed}
+use Rattle.markdown_block_rules.specs.BlockRules.{in_no_item, last_end, shown_setext, shown_text}
+use Rattle.markdown_plain.specs.Closing.{MayClose}
+use Rattle.markdown_plain.specs.Fitting.{HasBody}
+use Rattle.markdown_plain.specs.Containers.{closing_place}
+use Rattle.markdown_plain.proofs.OpenListsLemmas.{other_closed}
+use Rattle.markdown_plain.specs.Settled.{IsOpen, levels_shown, IsAtEnd}
 use Rattle.markdown_base.specs.declared.item.ItemBody.TheVariants as body
 use Rattle.markdown_block_rules.specs.BlockGrowth as was
 use Rattle.markdown_plain.specs.OpenBlocks as blocks
-use Rattle.markdown_plain.proofs.FramesLemmas.{list_alike, list_of_open, quote_alike, outer_nested, rebuilt_more}
-use Rattle.markdown_plain.proofs.LeafTreesLemmas.{closed_tree, same_block, innermost_of_opened, outer_of_these}
+use Rattle.markdown_plain.proofs.FramesLemmas.{as_many_open, list_alike, quote_alike}
+use Rattle.markdown_plain.proofs.LeafTreesLemmas.{by_test, closed_tree, same_block, innermost_of_opened, outer_of_these}
+use Rattle.markdown_plain.proofs.LeafTreesLemmas.{on_test, outer_of_opened, trees_last}
 
 -- ---- forests one after the other
 
-roots_of_both : (f g : Forest Shown)
-    → roots_changed tight_shown (followed_by f g)
+roots_of_both : (f g : Forest Shown) → roots_changed tight_shown (followed_by f g)
     ≡ followed_by (roots_changed tight_shown f) (roots_changed tight_shown g)
 roots_of_both nil g = refl
 roots_of_both (node a below after) g = ap (λ rest. node (tight_shown a) below rest) (roots_of_both after g)
 
-items_of_both : (f g : Forest Shown)
-    → items_changed tight_shown (followed_by f g)
+items_of_both : (f g : Forest Shown) → items_changed tight_shown (followed_by f g)
     ≡ followed_by (items_changed tight_shown f) (items_changed tight_shown g)
 items_of_both nil g = refl
 items_of_both (node a below after) g =
@@ -111,8 +100,7 @@ blocks_made_tight s marked (node b below after) are =
 
 -- a block directly in a list, which is an item or a blank line
 item_made_tight : (s : Source) (b : Block) (end : ℕ) (below : Forest Block) (kind : Kind) → MayBeIn true kind
-    → AreItemsInLists (is_list kind) below
-    → items_changed tight_shown
+    → AreItemsInLists (is_list kind) below → items_changed tight_shown
     (shown_block s in_no_item b end below (λ around. shown_blocks s around below) kind)
     ≡ shown_block s (in_item true 0) b end below (λ around. shown_blocks s around below) kind
 item_made_tight s b end below was.blank_line may are = refl
@@ -143,12 +131,11 @@ pub last_items : (in_list : Bool) (before : Forest Block) (b : Block) (below : F
 last_items in_list nil b below are = are.1
 last_items in_list (node a others after) b below are = last_items in_list after b below are.2
 
-items_inside : (in_list : Bool) (frames : List Frame) (f : Frame) (inside : Forest Block)
-    → AreItemsInLists in_list (rebuilt (frames ++ f ∷ []) inside) → AreItemsInLists (is_list f.block.kind) inside
-items_inside in_list [] f inside are = last_items in_list f.before f.block inside are
-items_inside in_list (g ∷ frames) f inside are =
-    items_inside (is_list g.block.kind) frames f inside
-    (last_items in_list g.before g.block (rebuilt (frames ++ f ∷ []) inside) are)
+pub items_inside : (frames : List Frame) (inside : Forest Block) → AreItemsInLists false (rebuilt frames inside)
+    → AreItemsInLists (innermost_is is_list frames) inside
+items_inside [] inside are = are
+items_inside (f ∷ outer) inside are =
+    last_items (innermost_is is_list outer) f.before f.block inside (items_inside outer (forgotten f inside) are)
 
 -- ---- the closed trees
 
@@ -163,39 +150,30 @@ pub none_tight : (b : Block) (kind : Kind) → (around_in b kind).tight ≡ fals
 none_tight b (was.item_container indent) = refl
 none_tight b other = refl
 
--- an item is the innermost container, closed, with what is in it
-abbrev IsClosedItem : Source → Frame → Forest Block → Shown → Type 0
-IsClosedItem s f inside a = (around : Around) → around.tight ≡ false
-    → node a (settled_below a (shown_blocks s (around_in f.block f.block.kind) inside)) nil
-    ≡ shown_blocks s around (node f.block inside nil)
+pub loose_around : (frames : List Frame) → (around_innermost frames).tight ≡ false
+loose_around [] = refl
+loose_around (f ∷ outer) = none_tight f.block f.block.kind
 
-pub levels_parted : (s : Source) (around : Around) (frames : List Frame) (f : Frame) (inside : Forest Block)
-    → levels_shown s around (frames ++ f ∷ []) inside
-    ≡ levels_shown s around frames f.before ++ shown_blocks s (around_in f.block f.block.kind) inside ∷ []
-levels_parted s around [] f inside = refl
-levels_parted s around (g ∷ frames) f inside = cc (levels_parted s (around_in g.block g.block.kind) frames f inside)
+pub some_level : (s : Source) (frames : List Frame) (inside : Forest Block) → levels_shown s frames inside ≡ [] → ⊥
+some_level s [] inside e = cc (e)
+some_level s (f ∷ outer) inside e = absurd (omega (
+  arith,
+  ap length e,
+  length-append (levels_shown s outer f.before) (shown_blocks s (around_in f.block f.block.kind) inside ∷ []),
+))
 
-pub some_level : (s : Source) (around : Around) (frames : List Frame) (inside : Forest Block)
-    → levels_shown s around frames inside ≡ [] → ⊥
-some_level s around [] inside e = cc (e)
-some_level s around (f ∷ frames) inside e = cc (e)
-
-levels_grown : (s : Source) (around : Around) (frames : List Frame) (f : Frame) (inside : Forest Block)
-    (new : Forest Shown) → around.tight ≡ false
-    → ((other : Around) → other.tight ≡ false → new ≡ shown_blocks s other (node f.block inside nil))
-    → with_trees (levels_shown s around frames f.before) new ≡ levels_shown s around frames (forgotten f inside)
-levels_grown s around [] f inside new loose is = rw (is around loose, shown_of_both)
-levels_grown s around (g ∷ []) f inside new loose is =
-    cc (levels_grown s (around_in g.block g.block.kind) [] f inside new (none_tight g.block g.block.kind) is)
-levels_grown s around (g ∷ h ∷ frames) f inside new loose is =
-    cc (levels_grown s (around_in g.block g.block.kind) (h ∷ frames) f inside new (none_tight g.block g.block.kind) is)
-
-levels_closed : (s : Source) (frames : List Frame) (f : Frame) (inside : Forest Block) (a : Shown)
-    → IsClosedItem s f inside a → with_block (levels_shown s in_no_item (frames ++ f ∷ []) inside) a
-    ≡ levels_shown s in_no_item frames (forgotten f inside)
-levels_closed s frames f inside a is =
-    rw (levels_parted, closed_tree _ _ a (some_level s in_no_item frames f.before))
-    (levels_grown s in_no_item frames f inside _ refl is)
+-- blocks are put at the end of the innermost level
+levels_appended : (s : Source) (frames : List Frame) (inside new : Forest Block)
+    → levels_shown s frames (followed_by inside new)
+    ≡ with_trees (levels_shown s frames inside) (shown_blocks s (around_innermost frames) new)
+levels_appended s [] inside new = rw shown_of_both refl
+levels_appended s (f ∷ outer) inside new =
+    rw (
+      shown_of_both,
+      trees_last (levels_shown s outer f.before) _
+          (shown_blocks s (around_in f.block f.block.kind) new),
+    )
+    refl
 
 -- ---- the item of a container
 
@@ -242,59 +220,11 @@ end_of_both before nil g = refl
 end_of_both before (node b below after) g =
     end_of_both (if is_blank_block b.kind then before else block_end b (last_end b.first below) b.kind) after g
 
--- the innermost container ends with what is in it
-end_inside : (before : ℕ) (frames : List Frame) (f : Frame) (inside : Forest Block)
-    → placed_end before (frames ++ f ∷ []) inside ≡ last_end f.block.first inside
-end_inside before [] f inside = refl
-end_inside before (g ∷ frames) f inside = end_inside g.block.first frames f inside
-
--- once it is closed, the one around it ends where it does
-end_closed : (before : ℕ) (frames : List Frame) (f : Frame) (inside : Forest Block)
-    → is_blank_block f.block.kind ≡ false → placed_end before frames (forgotten f inside)
-    ≡ block_end f.block (last_end f.block.first inside) f.block.kind
-end_closed before [] f inside some = rw (end_of_both before f.before (node f.block inside nil), some)
-end_closed before (g ∷ frames) f inside some = end_closed g.block.first frames f inside some
-
-quotes_outside : (to : ℕ) (frames : List Frame) (f : Frame) → QuotesEnd to (frames ++ f ∷ [])
-    → QuotesEnd to frames × (is_quote f.block.kind ≡ true → f.block.last ≡ to)
-quotes_outside to [] f ends = (tt, ends.0)
-quotes_outside to (g ∷ frames) f ends =
-    let others = quotes_outside to frames f ends.1 in ((ends.0, others.0), others.1)
-
--- ---- open blocks
-
--- the innermost of some open containers, and those outside it
-pub record IsOpenInside (texts : List (List ℕ)) (blocks : List OpenBlock) (frames : List Frame) (f : Frame)
-    : Type 0 where
-  pub block : OpenBlock
-  pub outer : List OpenBlock
-  pub is : blocks ≡ outer ++ block ∷ []
-  pub opened : IsOpen texts block f
-  pub outside : AreOpen texts outer frames
-
-innermost_open : (texts : List (List ℕ)) (blocks : List OpenBlock) (frames : List Frame) (f : Frame)
-    → AreOpen texts blocks (frames ++ f ∷ []) → IsOpenInside texts blocks frames f
-innermost_open texts [] [] f are = absurd are
-innermost_open texts (block ∷ []) [] f are =
-    record { block = block; outer = []; is = refl; opened = are.0; outside = tt }
-innermost_open texts (block ∷ other ∷ blocks) [] f are = absurd are.1
-innermost_open texts [] (g ∷ frames) f are = absurd are
-innermost_open texts (block ∷ blocks) (g ∷ frames) f are =
-    let last = innermost_open texts blocks frames f are.1 in
-    record {
-      block = last.block;
-      outer = block ∷ last.outer;
-      is = cc;
-      opened = last.opened;
-      outside = (are.0, last.outside);
-    }
-
-pub as_many_open : (texts : List (List ℕ)) (blocks : List OpenBlock) (frames : List Frame) → AreOpen texts blocks frames
-    → length blocks ≡ length frames
-as_many_open texts [] [] are = refl
-as_many_open texts [] (f ∷ frames) are = absurd are
-as_many_open texts (block ∷ blocks) [] are = absurd are
-as_many_open texts (block ∷ blocks) (f ∷ frames) are = ap suc (as_many_open texts blocks frames are.1)
+-- once the innermost container is closed, the one around it ends where it does
+end_closed : (frames : List Frame) (f : Frame) (inside : Forest Block) → is_blank_block f.block.kind ≡ false
+    → placed_end frames (forgotten f inside) ≡ block_end f.block (last_end f.block.first inside) f.block.kind
+end_closed [] f inside some = rw (end_of_both 0 f.before (node f.block inside nil), some)
+end_closed (g ∷ outer) f inside some = rw (end_of_both g.block.first f.before (node f.block inside nil), some)
 
 -- ---- one container closed
 
@@ -318,209 +248,162 @@ ends_itself was.quote_container quote b inside = refl
 ends_itself (was.alert_container kind) quote b inside = refl
 ends_itself other quote b inside = absurd (true≢false (sym quote))
 
--- the innermost open block, which is this one, was closed where the container ends
-pub record IsClosed (old new : Pass) (f : Frame) (inside : Forest Block) (block : OpenBlock) : Type 0 where
-  pub builder : new.placing.builder ≡ record (closed old.placing.builder new.placing.builder.levels) {
-    at = new.placing.builder.at;
+body_stays : (one other : Bool) (block : ItemBody) → (blocks.is_list block ≡ true → one ≡ other)
+    → closed_body one block ≡ closed_body other block
+body_stays one other (body.List tight character first) same = rw (same refl)
+body_stays one other block same = refl
+
+-- The innermost open block is as it is closed, and where: of a list it is known whether it is loose, and a block quote
+-- ends after its last line.
+pub record IsSettled (old mid : Pass) : Type 0 where
+  pub block : OpenBlock
+  pub loose : Bool
+  pub was : old.placing.builder.blocks ≡ outer_of old.placing.builder.blocks ++ block ∷ []
+  pub builder : mid.placing.builder ≡ record old.placing.builder {
+    blocks = outer_of old.placing.builder.blocks ++ record block { body = closed_body loose block.body } ∷ [];
+    at = if blocks.is_quote block.body then old.placed else old.placing.builder.at;
   }
-  pub at : new.placing.builder.at ≡ block_end f.block (last_end f.block.first inside) f.block.kind
-  pub levels : new.placing.builder.levels ≡ with_block old.placing.builder.levels
-      (closed_as (parts_of old.placing.builder) block new.placing.builder.at (is_loose inside))
-  pub placed : new.placed ≡ old.placed
+  pub decides : (frames : List Frame) (f : Frame) (inside : Forest Block) → is_list f.block.kind
+      ≡ blocks.is_list block.body
+      → AreNested (f ∷ frames) → IsLooseAs old.looseness (f ∷ frames) inside
+      → (blocks.is_list block.body ≡ true → loose ≡ is_loose inside) × IsLooseAs mid.looseness frames
+      (forgotten f inside)
+  pub same : mid ≡ record old {
+    placing = mid.placing;
+    looseness = record old.looseness { lists = mid.looseness.lists; item_is_empty = mid.looseness.item_is_empty };
+  }
 
-closed_item : (s : Source) (f : Frame) (inside : Forest Block) (parts : Parts) (block : OpenBlock) (end : ℕ)
-    → IsOpen parts.texts block f → AreItemsInLists (is_list f.block.kind) inside
-    → end ≡ block_end f.block (last_end f.block.first inside) f.block.kind
-    → IsClosedItem s f inside (closed_as parts block end (is_loose inside))
-unfolding shown_blocks
-closed_item s f inside parts block end opened items ends around loose =
-    rw (opened.start, ends)
-    (container_shown s parts around f.block inside f.block.kind block.body opened.body items loose)
-
--- it is forgotten that it was open
-forget : (s : Source) (old new : Pass) (frames : List Frame) (f : Frame) (inside : Forest Block)
-    → MayClose s old (frames ++ f ∷ []) inside
-    → (last : IsOpenInside old.placing.builder.texts old.placing.builder.blocks frames f)
-    → IsClosed old new f inside last.block → IsLooseAs new.looseness frames (forgotten f inside)
-    → MayClose s new frames (forgotten f inside)
-forget s old new frames f inside may last is loose =
-    let before = old.placing.builder in
-    let built = may.stands.built in
-    let same = rebuilt_more frames f inside in
-    let outer = outer_of_these before.blocks last.outer last.block last.is in
-    let item = closed_item s f inside (parts_of before) last.block new.placing.builder.at last.opened
-    (items_inside false frames f inside may.stands.items) is.at in
-    let ends = end_closed 0 frames f inside (no_blank before.texts f.block.kind last.block.body last.opened.body) in
-    record {
-      stands = record {
-        built = record {
-          text = cc;
-          blocks = rw (is.builder, outer) last.outside;
-          nested = outer_nested frames (f ∷ []) built.nested;
-          outside = cc;
-          levels = rw (is.levels, built.levels) (levels_closed s frames f inside _ item);
-          definitions = rw (is.builder, ← same) built.definitions;
-          footnotes = rw (is.builder, ← same) built.footnotes;
-        };
-        ends = record { at = cc; quotes = rw is.placed (quotes_outside old.placed frames f may.stands.ends.quotes).0 };
-        items = rw (← same) may.stands.items;
-      };
-      loose = loose;
-    }
-
--- ---- how the pass closes one
-
--- it is the innermost open block
-last_open : (s : Source) (pass : Pass) (frames : List Frame) (f : Frame) (inside : Forest Block)
-    → StandsFor s pass (frames ++ f ∷ []) inside
-    → IsOpenInside pass.placing.builder.texts pass.placing.builder.blocks frames f
-last_open s pass frames f inside stands =
-    innermost_open pass.placing.builder.texts pass.placing.builder.blocks frames f stands.built.blocks
+-- some open blocks have an innermost one
+last_block : (these : List OpenBlock) → (these ≡ [] → ⊥) → (block : OpenBlock) × (these ≡ outer_of these ++ block ∷ [])
+unfolding outer_of
+last_block [] some = absurd (some refl)
+last_block (block ∷ []) some = (block, refl)
+last_block (block ∷ inner ∷ these) some =
+    let last = last_block (inner ∷ these) (λ none. cc (none)) in (last.0, ap (λ bs. block ∷ bs) last.1)
 
 innermost_test : (test : ItemBody → Bool) (these outer : List OpenBlock) (block : OpenBlock)
     → these ≡ outer ++ block ∷ [] → blocks.innermost_is test these ≡ test block.body
 innermost_test test these outer block is = cc (ap innermost_block is, innermost_of_opened outer block)
 
--- a list is given its looseness, and closed
-pub record ClosesList (old new : Pass) (character first : ℕ) : Type 0 where
-  pub tight : Bool
-  pub loose : Bool
-  pub settled : BuilderView
-  pub innermost : option_map (λ b. b.body) (innermost_block old.placing.builder.blocks)
-      ≡ Some (body.List tight character first)
-  pub same : settled ≡ record old.placing.builder { blocks = settled.blocks }
-  pub settles : HasBody old.placing.builder settled (body.List (not loose) character first)
-  pub closes : new.placing.builder ≡ closed old.placing.builder new.placing.builder.levels
-  pub puts : PutsBlock settled new.placing.builder
-  pub decides : (frames : List Frame) (f : Frame) (inside : Forest Block) → is_list f.block.kind ≡ true
-      → IsLooseAs old.looseness (frames ++ f ∷ []) inside
-      → (loose ≡ is_loose inside) × IsLooseAs new.looseness frames (forgotten f inside)
-  pub placed : new.placed ≡ old.placed
+-- a list is given its looseness
+pub list_settled : (old mid : Pass) (tight loose : Bool) (character first : ℕ)
+    → option_map (λ b. b.body) (innermost_block old.placing.builder.blocks) ≡ Some (body.List tight character first)
+    → mid.placing.builder ≡ record old.placing.builder { blocks = mid.placing.builder.blocks }
+    → HasBody old.placing.builder mid.placing.builder (body.List (not loose) character first)
+    → ((frames : List Frame) (f : Frame) (inside : Forest Block) → is_list f.block.kind ≡ true
+    → IsLooseAs old.looseness (f ∷ frames) inside
+    → (loose ≡ is_loose inside) × IsLooseAs mid.looseness frames (forgotten f inside)) → mid ≡ record old {
+      placing = mid.placing;
+      looseness = record old.looseness { lists = mid.looseness.lists; item_is_empty = mid.looseness.item_is_empty };
+    } → IsSettled old mid
+list_settled old mid tight loose character first innermost same settles decides kept =
+    let here : settles.block.body ≡ body.List tight character first =
+    same_Some _ _ (sym (ap (option_map (λ b. b.body)) (ap innermost_block settles.was
+    ∙ innermost_of_opened (outer_of old.placing.builder.blocks) settles.block)) ∙ innermost) in
+    record {
+      block = settles.block;
+      loose = loose;
+      was = settles.was;
+      builder = same ∙ rw (settles.becomes, here) refl;
+      decides = λ frames f inside alike nested before.
+          let both = decides frames f inside (alike ∙ ap blocks.is_list here) before in (λ list. both.0, both.1);
+      same = kept;
+    }
 
--- another container is closed at a byte offset
-pub record ClosesOther (old new : Pass) (to : ℕ) : Type 0 where
-  pub other : blocks.innermost_is blocks.is_list old.placing.builder.blocks ≡ false
-  pub closes : new.placing.builder ≡ closed (stepped old.placing.builder to) new.placing.builder.levels
-  pub puts : PutsBlock (stepped old.placing.builder to) new.placing.builder
-  pub loose : (frames : List Frame) (f : Frame) (inside : Forest Block) → is_list f.block.kind ≡ false
-      → AreNested (frames ++ f ∷ []) → IsLooseAs old.looseness (frames ++ f ∷ []) inside
-      → IsLooseAs new.looseness frames (forgotten f inside)
-  pub placed : new.placed ≡ old.placed
+-- another container stays as it is, where it is closed
+pub other_settled : (old mid : Pass) → (old.placing.builder.blocks ≡ [] → ⊥)
+    → mid.placing.builder ≡ stepped old.placing.builder (closing_place old)
+    → blocks.innermost_is blocks.is_list old.placing.builder.blocks ≡ false → mid ≡ record old { placing = mid.placing }
+    → IsSettled old mid
+other_settled old mid some steps other same =
+    let these = old.placing.builder.blocks in let last = last_block these some in
+    let test = λ (of : ItemBody → Bool). innermost_test of these (outer_of these) last.0 last.1 in
+    let plain : blocks.is_list last.0.body ≡ false = sym (test blocks.is_list) ∙ other in
+    record {
+      block = last.0;
+      loose = false;
+      was = last.1;
+      builder = steps ∙ rw (test blocks.is_quote, as_it_is last.0.body plain, ← last.1) refl;
+      decides = λ frames f inside alike nested before. (
+        λ list. absurd (true≢false (sym list ∙ plain)),
+        other_closed old.looseness mid.looseness frames f inside (ap (λ (p : Pass). p.looseness.lists.items) same)
+            (ap (λ (p : Pass). p.looseness.item_is_empty) same) (alike ∙ plain) nested before,
+      );
+      same = rw same refl;
+    }
+  where
+    as_it_is : (block : ItemBody) → blocks.is_list block ≡ false → closed_body false block ≡ block
+    as_it_is (body.List tight character first) list = absurd (true≢false list)
+    as_it_is block list = refl
 
--- what is no list is closed with the body that it has
-body_stays : (loose : Bool) (block : ItemBody) → blocks.is_list block ≡ false → closed_body loose block ≡ block
-body_stays loose (body.List tight character first) other = absurd (true≢false other)
-body_stays loose block other = refl
+-- where it is closed, its container ends
+closes_at : (texts : List (List ℕ)) (block : OpenBlock) (f : Frame) (inside : Forest Block) (at placed : ℕ)
+    → IsOpen texts block f → at ≡ last_end f.block.first inside → (is_quote f.block.kind ≡ true → f.block.last ≡ placed)
+    → (if blocks.is_quote block.body then placed else at)
+    ≡ block_end f.block (last_end f.block.first inside) f.block.kind
+closes_at texts block f inside at placed opened is quote =
+    on_test (λ n. n ≡ block_end f.block (last_end f.block.first inside) f.block.kind) (blocks.is_quote block.body)
+    placed at
+    (λ test.
+    let quoted = sym (quote_alike texts f.block.kind block.body opened.body) ∙ test in
+    cc (quote quoted, ends_itself f.block.kind quoted f.block (last_end f.block.first inside))) (λ test.
+    let other = sym (quote_alike texts f.block.kind block.body opened.body) ∙ test in
+    cc (is, ends_inside texts f.block.kind block.body opened.body other f.block (last_end f.block.first inside)))
 
--- tests of the innermost container's kind are those of its block's body
-innermost_alike : (s : Source) (pass : Pass) (frames : List Frame) (f : Frame) (inside : Forest Block)
-    → StandsFor s pass (frames ++ f ∷ []) inside
-    → (is_list f.block.kind ≡ blocks.innermost_is blocks.is_list pass.placing.builder.blocks)
-    × (is_quote f.block.kind ≡ blocks.innermost_is blocks.is_quote pass.placing.builder.blocks)
-innermost_alike s pass frames f inside stands =
-    let last = last_open s pass frames f inside stands in
-    let test = λ (of : ItemBody → Bool). innermost_test of pass.placing.builder.blocks last.outer last.block last.is in
-    let alike = quote_alike _ _ _ last.opened.body in
-    (cc (list_alike _ _ _ last.opened.body, test blocks.is_list), cc (alike, test blocks.is_quote))
+-- the innermost container is closed
+pub forgotten_so : (s : Source) (old mid new : Pass) → IsSettled old mid
+    → new.placing.builder ≡ closed mid.placing.builder new.placing.builder.levels
+    → PutsBlock mid.placing.builder new.placing.builder → new ≡ record mid { placing = new.placing }
+    → (f : Frame) (outer : List Frame) (inside : Forest Block)
+    → MayClose s old (f ∷ outer) inside → MayClose s new outer (forgotten f inside)
+unfolding shown_blocks
+forgotten_so s old mid new is closes puts same f outer inside may =
+    let before = old.placing.builder in let built = may.stands.built in
+    let now : OpenBlock = record is.block { body = closed_body is.loose is.block.body } in
+    let (block, others, are, opened, around) = built.blocks in
+    let this : block ≡ is.block = same_block before.blocks others (outer_of before.blocks) block is.block are is.was in
+    let opened_is : IsOpen before.texts is.block f = rw (← this) opened in
+    let outside : outer_of before.blocks ≡ others = outer_of_these before.blocks others block are in
+    let mids : mid.placing.builder.blocks ≡ outer_of before.blocks ++ now ∷ [] = rw is.builder refl in
+    let put : puts.block ≡ now = same_block mid.placing.builder.blocks _ _ puts.block now puts.was mids in
+    let listed = list_alike before.texts f.block.kind is.block.body opened_is.body in
+    let decided = is.decides outer f inside (sym listed) built.nested may.loose in
+    let stays = body_stays is.loose (is_loose inside) is.block.body decided.0 in
+    let end = closes_at before.texts is.block f inside before.at old.placed opened_is may.stands.ends.at
+    may.stands.ends.quotes.0 in
+    let item = container_shown s (parts_of before) (around_innermost outer) f.block inside f.block.kind is.block.body
+    opened_is.body (items_inside (f ∷ outer) inside may.stands.items) (loose_around outer) in
+    record {
+      stands = record {
+        built = record {
+          text = rw (closes, is.builder) built.text;
+          blocks = rw (closes, mids, outer_of_opened, outside, is.builder) around;
+          nested = built.nested.1;
+          outside = rw closes refl;
+          levels = puts.levels ∙ rw (put, is.builder, built.levels, closed_tree _ _ _ (some_level s outer f.before))
+              (rw (end, stays, opened_is.start, item) (sym (levels_appended s outer f.before
+              (node f.block inside nil))));
+          definitions = rw (closes, is.builder) built.definitions;
+          footnotes = rw (closes, is.builder) built.footnotes;
+        };
+        ends = record {
+          at = rw (closes, is.builder, end) (sym (end_closed outer f inside
+              (no_blank before.texts f.block.kind is.block.body
+              opened_is.body)));
+          quotes = rw (same, ap (λ (p : Pass). p.placed) is.same) may.stands.ends.quotes.1;
+        };
+        items = may.stands.items;
+      };
+      loose = rw same decided.1;
+    }
 
--- the pass closes a list
-pub list_forgotten : (s : Source) (old new : Pass) (character first : ℕ) (frames : List Frame) (f : Frame)
-    (inside : Forest Block) → MayClose s old (frames ++ f ∷ []) inside → ClosesList old new character first
-    → MayClose s new frames (forgotten f inside)
-list_forgotten s old new character first frames f inside may closes =
-    let before = old.placing.builder in
-    let last = last_open s old frames f inside may.stands in
-    let is_body : last.block.body ≡ body.List closes.tight character first =
-    same_Some _ _ (sym (ap (option_map (λ b. b.body)) (ap innermost_block last.is
-    ∙ innermost_of_opened last.outer last.block)) ∙ closes.innermost) in
-    let listed : is_list f.block.kind ≡ true = sym (list_alike _ _ _ last.opened.body) ∙ ap blocks.is_list is_body in
-    let quoted : is_quote f.block.kind ≡ false =
-    sym (quote_alike _ _ _ last.opened.body) ∙ ap blocks.is_quote is_body in
-    let ends = ends_inside before.texts f.block.kind last.block.body last.opened.body quoted f.block
-    (last_end f.block.first inside) in
-    let decided = closes.decides frames f inside listed may.loose in
-    let loose = decided.0 in
-    let is_closed = ap (closed_body (is_loose inside)) is_body in
-    let put = same_block closes.settled.blocks (outer_of closes.settled.blocks) (outer_of before.blocks)
-    closes.puts.block (record closes.settles.block { body = body.List (not closes.loose) character first })
-    closes.puts.was closes.settles.becomes in
-    let was = same_block before.blocks (outer_of before.blocks) last.outer closes.settles.block last.block
-    closes.settles.was last.is in
-    let at = ap (λ (b : BuilderView). b.at) closes.closes in
-    forget s old new frames f inside may last (record {
-      builder = closes.closes ∙ ap (λ n. record (closed before new.placing.builder.levels) { at = n }) (sym at);
-      at = cc (at, may.stands.ends.at, end_inside 0 frames f inside, ends);
-      levels = closes.puts.levels ∙ (ap (λ (b : BuilderView). with_block b.levels (shown_item (parts_of b)
-          (record { start = closes.puts.block.start; end = b.at; body = closes.puts.block.body }))) closes.same
-          ∙ rw (put, was, loose, at, is_closed));
-      placed = closes.placed;
-    }) decided.1
-
--- another container is closed, where it ends
-other_forgotten : (s : Source) (old new : Pass) (to : ℕ) (frames : List Frame) (f : Frame) (inside : Forest Block)
-    → MayClose s old (frames ++ f ∷ []) inside → ClosesOther old new to
-    → to ≡ block_end f.block (last_end f.block.first inside) f.block.kind → MayClose s new frames (forgotten f inside)
-other_forgotten s old new to frames f inside may closes ends =
-    let before = old.placing.builder in
-    let last = last_open s old frames f inside may.stands in
-    let unlisted = (innermost_alike s old frames f inside may.stands).0 ∙ closes.other in
-    let stays = body_stays (is_loose inside) last.block.body (list_alike _ _ _ last.opened.body ∙ unlisted) in
-    let put = same_block before.blocks (outer_of before.blocks) last.outer closes.puts.block last.block closes.puts.was
-    last.is in
-    let at = ap (λ (b : BuilderView). b.at) closes.closes in
-    forget s old new frames f inside may last (record {
-      builder = closes.closes ∙ ap (λ n. record (closed before new.placing.builder.levels) { at = n }) (sym at);
-      at = at ∙ ends;
-      levels = rw (stays, at, ← put) closes.puts.levels;
-      placed = closes.placed;
-    }) (closes.loose frames f inside unlisted may.stands.built.nested may.loose)
-
--- the pass closes a block quote, after its last line
-pub quote_forgotten : (s : Source) (old new : Pass) (frames : List Frame) (f : Frame) (inside : Forest Block)
-    → MayClose s old (frames ++ f ∷ []) inside
-    → blocks.innermost_is blocks.is_quote old.placing.builder.blocks ≡ true → ClosesOther old new old.placed
-    → MayClose s new frames (forgotten f inside)
-quote_forgotten s old new frames f inside may quote closes =
-    let quoted = (innermost_alike s old frames f inside may.stands).1 ∙ quote in
-    let ends = (quotes_outside old.placed frames f may.stands.ends.quotes).1 quoted in
-    other_forgotten s old new old.placed frames f inside may closes
-    (cc (ends, ends_itself f.block.kind quoted f.block (last_end f.block.first inside)))
-
--- the pass closes an item or a footnote definition
-pub plain_forgotten : (s : Source) (old new : Pass) (frames : List Frame) (f : Frame) (inside : Forest Block)
-    → MayClose s old (frames ++ f ∷ []) inside → blocks.innermost_is blocks.is_quote old.placing.builder.blocks ≡ false
-    → ClosesOther old new old.placing.builder.at → MayClose s new frames (forgotten f inside)
-plain_forgotten s old new frames f inside may other closes =
-    let before = old.placing.builder in
-    let last = last_open s old frames f inside may.stands in
-    let unquoted = (innermost_alike s old frames f inside may.stands).1 ∙ other in
-    other_forgotten s old new before.at frames f inside may closes (cc (
-      may.stands.ends.at,
-      end_inside 0 frames f inside,
-      ends_inside before.texts f.block.kind last.block.body last.opened.body unquoted f.block
-          (last_end f.block.first inside),
-    ))
+-- and the builder is the same but for that
+pub closed_so : (old mid : Pass) (new : BuilderView) → IsSettled old mid → new ≡ closed mid.placing.builder new.levels
+    → new ≡ record (closed old.placing.builder new.levels) { at = closing_place old }
+closed_so old mid new is closes =
+    closes ∙ rw (is.builder, outer_of_opened, innermost_test blocks.is_quote _ _ is.block is.was) refl
 
 -- ---- more containers closed
-
--- of one container more than some number, the innermost
-pub record LastKept (n : ℕ) (frames : List Frame) : Type 0 where
-  pub f : Frame
-  pub taken : take (suc n) frames ≡ take n frames ++ f ∷ []
-  pub dropped : drop n frames ≡ f ∷ drop (suc n) frames
-
-pub last_kept : (n : ℕ) (frames : List Frame) → n < length frames → LastKept n frames
-last_kept n [] more = absurd (omega (arith, more))
-last_kept zero (f ∷ frames) more = record { f = f; taken = refl; dropped = refl }
-last_kept (suc n) (g ∷ frames) more =
-    let last = last_kept n frames (omega (arith, more)) in record { f = last.f; taken = cc; dropped = last.dropped }
-
--- where this many containers are open, there are this many
-kept_within : (n : ℕ) (frames : List Frame) → n ≡ length (take n frames) → n ≤ length frames
-kept_within zero frames as_many = omega arith
-kept_within (suc n) [] as_many = omega (arith, as_many)
-kept_within (suc n) (f ∷ frames) as_many =
-    let others = kept_within n frames (omega (arith, as_many)) in omega (arith, others)
 
 -- as many are open as there are
 pub open_containers : (s : Source) (pass : Pass) (frames : List Frame) (inside : Forest Block)
@@ -528,59 +411,53 @@ pub open_containers : (s : Source) (pass : Pass) (frames : List Frame) (inside :
 open_containers s pass frames inside may =
     as_many_open pass.placing.builder.texts pass.placing.builder.blocks frames may.stands.built.blocks
 
--- the innermost of these containers is closed by a step of the pass
-pub one_less : (s : Source) (old new : Pass) (frames : List Frame) (inside : Forest Block) (n m : ℕ)
-    → n ≡ length old.placing.builder.blocks → suc m ≡ n
-    → MayClose s old (take n frames) (rebuilt (drop n frames) inside)
-    → ((outer : List Frame) (f : Frame) (below : Forest Block) → MayClose s old (outer ++ f ∷ []) below
-    → MayClose s new outer (forgotten f below)) → MayClose s new (take m frames) (rebuilt (drop m frames) inside)
-one_less s old new frames inside n m number less may forgets =
-    let within = kept_within n frames (number ∙ open_containers s old (take n frames) _ may) in
-    let last = last_kept m frames (omega (arith, within, less)) in
-    rw last.dropped (forgets (take m frames) last.f (rebuilt (drop (suc m) frames) inside)
-    (rw (← last.taken, less) may))
+-- containers and the blocks in them of which a fact holds once those inside a number of them are closed
+abbrev pub ClosedTo : (List Frame → Forest Block → Type 0) → ℕ → List Frame → Forest Block → Type 0
+ClosedTo P depth frames inside = P (outer_within depth frames) (closed_in depth frames inside)
+
+-- no more are open, or one less is
+pub within : (P : List Frame → Forest Block → Type 0) (depth : ℕ) (frames : List Frame) (inside : Forest Block)
+    → length frames ≤ depth → P frames inside → ClosedTo P depth frames inside
+within P depth [] inside few p = p
+within P depth (f ∷ outer) inside few p =
+    let less : nat_lt (length outer) depth ≡ true = grind (arith, nat_tests, few) in rw less p
+
+pub one_less : (P Q : List Frame → Forest Block → Type 0) (depth : ℕ) (frames : List Frame) (inside : Forest Block)
+    → ((f : Frame) (outer : List Frame) (below : Forest Block) → P (f ∷ outer) below → Q outer (forgotten f below))
+    → length (outer_within (suc depth) frames) ≡ suc depth
+    → ClosedTo P (suc depth) frames inside → ClosedTo Q depth frames inside
+one_less P Q depth [] inside step many = λ p. absurd (omega (arith, many))
+one_less P Q depth (f ∷ outer) inside step many =
+    by_test (nat_lt (length outer) (suc depth)) (λ is. by_test (nat_lt (length outer) depth) (λ less.
+    let few : length outer < depth = grind (arith, nat_tests, less) in absurd (omega (arith, few, rw is at many)))
+    (λ more.
+    let few : length outer ≤ depth = grind (arith, nat_tests, is) in
+    rw (is, more) (λ p. within Q depth outer (forgotten f inside) few (step f outer inside p)))) (λ is.
+    let other : nat_lt (length outer) depth ≡ false = grind (arith, nat_tests, is) in
+    rw (is, other) (one_less P Q depth outer (forgotten f inside) step (rw is at many)))
+
+-- where there are as many, they are as many
+pub exact_depth : (depth : ℕ) (frames : List Frame) → depth ≤ length frames → length (outer_within depth frames) ≡ depth
+exact_depth depth [] few = omega (arith, few)
+exact_depth depth (f ∷ outer) few =
+    on_test (λ (fs : List Frame). length fs ≡ depth) (nat_lt (length outer) depth) _ _
+    (λ less. grind (arith, nat_tests, less, few)) (λ more. exact_depth depth outer (grind (arith, nat_tests, more)))
 
 -- ---- room for a block
 
--- no list is in the way
-pub no_list_closed : (s : Source) (pass : Pass) (depth : ℕ) (frames : List Frame) (inside : Forest Block)
-    → depth ≤ length frames → MayClose s pass (take depth frames) (rebuilt (drop depth frames) inside)
-    → blocks.innermost_is blocks.is_list pass.placing.builder.blocks ≡ false
-    → MayClose s pass (take (room_depth depth frames) frames) (rebuilt (drop (room_depth depth frames) frames) inside)
-no_list_closed s pass depth frames inside few may other =
-    rw (sym (list_of_open _ _ (take depth frames) may.stands.built.blocks) ∙ other) may
-
--- the innermost, which is a list, is closed by a step of the pass
-pub list_in_the_way : (s : Source) (old new : Pass) (depth : ℕ) (frames : List Frame) (inside : Forest Block)
-    → depth ≤ length frames → MayClose s old (take depth frames) (rebuilt (drop depth frames) inside)
-    → blocks.innermost_is blocks.is_list old.placing.builder.blocks ≡ true
-    → ((outer : List Frame) (f : Frame) (below : Forest Block) → MayClose s old (outer ++ f ∷ []) below
-    → MayClose s new outer (forgotten f below)) → MayClose s new (take (room_depth depth frames) frames)
-    (rebuilt (drop (room_depth depth frames) frames) inside)
-list_in_the_way s old new depth frames inside few may listed forgets =
-    let test : innermost_is is_list (take depth frames) ≡ true =
-    sym (list_of_open _ _ (take depth frames) may.stands.built.blocks) ∙ listed in
-    let many = sym (open_containers s old (take depth frames) _ may ∙ length-take-le depth frames few) in
-    let some : 0 < depth = some_open depth test in
-    rw test (one_less s old new frames inside depth (depth - 1) many (omega (arith, some)) may forgets)
+-- the innermost of these containers, which is a list, is closed
+pub room_of : (P Q : List Frame → Forest Block → Type 0) (depth : ℕ) (frames : List Frame) (inside : Forest Block)
+    → depth ≤ length frames → innermost_is is_list (outer_within depth frames) ≡ true
+    → ((f : Frame) (outer : List Frame) (below : Forest Block) → P (f ∷ outer) below → Q outer (forgotten f below))
+    → ClosedTo P depth frames inside → ClosedTo Q (room_depth depth frames) frames inside
+room_of P Q depth frames inside few list step p =
+    let many = exact_depth depth frames few in
+    let next : suc (depth - 1) ≡ depth = omega (arith, some (outer_within depth frames) list, many) in
+    rw list (one_less P Q (depth - 1) frames inside step (rw next many) (rw next p))
   where
-    some_open : (n : ℕ) → innermost_is is_list (take n frames) ≡ true → 0 < n
-    some_open zero test = cc (test)
-    some_open (suc n) test = omega arith
-
--- ---- what is shown
-
--- they are put at the end of the innermost level
-levels_appended : (s : Source) (around : Around) (frames : List Frame) (inside new : Forest Block)
-    → levels_shown s around frames (followed_by inside new)
-    ≡ with_trees (levels_shown s around frames inside) (shown_blocks s (around_innermost around frames) new)
-levels_appended s around [] inside new = ap (λ f. f ∷ []) (shown_of_both s around inside new)
-levels_appended s around (f ∷ []) inside new =
-    ap (λ ls. shown_blocks s around f.before ∷ ls)
-    (levels_appended s (around_in f.block f.block.kind) [] inside new)
-levels_appended s around (f ∷ g ∷ frames) inside new =
-    ap (λ ls. shown_blocks s around f.before ∷ ls)
-    (levels_appended s (around_in f.block f.block.kind) (g ∷ frames) inside new)
+    some : (fs : List Frame) → innermost_is is_list fs ≡ true → 0 < length fs
+    some [] list = absurd (true≢false (sym list))
+    some (f ∷ outer) list = omega arith
 
 -- ---- what is gathered from blocks in the order of the text, where each block has some of its own
 
@@ -598,29 +475,39 @@ gathered_followed own all is (node b below after) new =
     ∙ (sym (append_assoc (own b) (all below ++ all after) (all new))
     ∙ ap (λ xs. xs ++ all new) (sym (is.block b below after)))))
 
--- with an open container around blocks
-pub gathered_around : {A : Type 0} (own : Block → List A) (all : Forest Block → List A) → IsGathered own all
-    → (f : Frame) (blocks : Forest Block)
-    → all (followed_by f.before (node f.block blocks nil)) ≡ (all f.before ++ own f.block) ++ all blocks
-gathered_around own all is f blocks =
-    gathered_followed own all is f.before (node f.block blocks nil)
-    ∙ (ap (λ xs. all f.before ++ xs) (is.block f.block blocks nil
-    ∙ ap (λ xs. own f.block ++ xs) (ap (λ xs. all blocks ++ xs) is.none ∙ append-nil (all blocks)))
-    ∙ sym (append_assoc (all f.before) (own f.block) (all blocks)))
+-- what is gathered before the blocks in the innermost of some open containers
+abbrev pub gathered_before : {A : Type 0} (own : Block → List A) (all : Forest Block → List A) → List Frame → List A
+gathered_before own all [] = []
+gathered_before own all (f ∷ outer) = gathered_before own all outer ++ (all f.before ++ own f.block)
+
+pub gathered_in : {A : Type 0} (own : Block → List A) (all : Forest Block → List A) → IsGathered own all
+    → (frames : List Frame) (inside : Forest Block)
+    → all (rebuilt frames inside) ≡ gathered_before own all frames ++ all inside
+gathered_in own all is [] inside = refl
+gathered_in own all is (f ∷ outer) inside =
+    rw (
+      gathered_in own all is outer (forgotten f inside),
+      gathered_followed own all is,
+      is.block,
+      is.none,
+      append-nil,
+      append_assoc,
+      append_assoc,
+    ) refl
 
 gathered_appended : {A : Type 0} (own : Block → List A) (all : Forest Block → List A) → IsGathered own all
     → (frames : List Frame) (inside new : Forest Block)
     → all (rebuilt frames (followed_by inside new)) ≡ all (rebuilt frames inside) ++ all new
-gathered_appended own all is [] inside new = gathered_followed own all is inside new
-gathered_appended own all is (f ∷ frames) inside new =
-    gathered_around own all is f (rebuilt frames (followed_by inside new))
-    ∙ (ap (λ xs. (all f.before ++ own f.block) ++ xs) (gathered_appended own all is frames inside new)
-    ∙ (sym (append_assoc (all f.before ++ own f.block) (all (rebuilt frames inside)) (all new))
-    ∙ ap (λ xs. xs ++ all new) (sym (gathered_around own all is f (rebuilt frames inside)))))
+gathered_appended own all is frames inside new =
+    rw (
+      gathered_in own all is frames (followed_by inside new),
+      gathered_followed own all is,
+      gathered_in own all is frames inside,
+      append_assoc,
+    ) refl
 
 pub definitions_gathered : (s : Source)
-    → IsGathered (λ b. (divided (entity_names s.syntax) s.text (paragraph_lines b.kind)).definitions)
-    (definitions_in s)
+    → IsGathered (λ b. (divided (entity_names s.syntax) s.text (paragraph_lines b.kind)).definitions) (definitions_in s)
 unfolding definitions_in
 definitions_gathered s = record { none = refl; block = λ b below after. refl }
 
@@ -640,10 +527,10 @@ footnotes_appended frames inside new = gathered_appended _ footnotes_in footnote
 
 -- ---- where they end
 
-pub end_appended : (before : ℕ) (frames : List Frame) (inside new : Forest Block)
-    → placed_end before frames (followed_by inside new) ≡ last_end (placed_end before frames inside) new
-end_appended before [] inside new = end_of_both before inside new
-end_appended before (f ∷ frames) inside new = end_appended f.block.first frames inside new
+pub end_appended : (frames : List Frame) (inside new : Forest Block)
+    → placed_end frames (followed_by inside new) ≡ last_end (placed_end frames inside) new
+end_appended [] inside new = end_of_both 0 inside new
+end_appended (f ∷ outer) inside new = end_of_both f.block.first inside new
 
 -- ---- what is built
 
@@ -664,12 +551,13 @@ body_after texts more other b is = absurd is
 
 pub open_after : (texts more : List (List ℕ)) (blocks : List OpenBlock) (frames : List Frame)
     → AreOpen texts blocks frames → AreOpen (texts ++ more) blocks frames
-open_after texts more [] [] are = tt
-open_after texts more [] (f ∷ frames) are = absurd are
-open_after texts more (block ∷ blocks) [] are = absurd are
-open_after texts more (block ∷ blocks) (f ∷ frames) are = (
-  record { start = are.0.start; body = body_after texts more f.block.kind block.body are.0.body },
-  open_after texts more blocks frames are.1,
+open_after texts more blocks [] none = none
+open_after texts more blocks (f ∷ outer) (block, others, are, is, around) = (
+  block,
+  others,
+  are,
+  record { start = is.start; body = body_after texts more f.block.kind block.body is.body },
+  open_after texts more others outer around,
 )
 
 -- a builder has appended, in the innermost of these open containers, what is shown of some blocks, with the texts that
@@ -679,7 +567,7 @@ pub record AppendsBlocks (s : Source) (frames : List Frame) (new : Forest Block)
   pub text : now.text ≡ old.text
   pub blocks : now.blocks ≡ old.blocks
   pub outside : now.leaf ≡ false
-  pub levels : now.levels ≡ with_trees old.levels (shown_blocks s (around_innermost in_no_item frames) new)
+  pub levels : now.levels ≡ with_trees old.levels (shown_blocks s (around_innermost frames) new)
   pub texts : now.texts ≡ old.texts ++ more
   pub definitions : now.definitions ≡ old.definitions ++ definitions_in s new
   pub footnotes : now.footnotes ≡ old.footnotes ++ footnotes_in new
@@ -695,8 +583,8 @@ appended_is_built s frames inside new old now appends built =
       blocks = subst (λ blocks. AreOpen now.texts blocks frames) (sym appends.blocks) open_still;
       nested = built.nested;
       outside = appends.outside;
-      levels = appends.levels ∙ (ap (λ ls. with_trees ls (shown_blocks s (around_innermost in_no_item frames) new))
-          built.levels ∙ sym (levels_appended s in_no_item frames inside new));
+      levels = appends.levels ∙ (ap (λ ls. with_trees ls (shown_blocks s (around_innermost frames) new))
+          built.levels ∙ sym (levels_appended s frames inside new));
       definitions = appends.definitions ∙ (ap (λ ds. ds ++ definitions_in s new) built.definitions
           ∙ sym (definitions_appended s frames inside new));
       footnotes = appends.footnotes ∙ (ap (λ ls. ls ++ footnotes_in new) built.footnotes
@@ -734,7 +622,7 @@ blank_is_built s view frames inside b blank built =
       text = refl;
       blocks = refl;
       outside = built.outside;
-      levels = sym (ap (with_trees view.levels) (nothing_shown s (around_innermost in_no_item frames) b blank)
+      levels = sym (ap (with_trees view.levels) (nothing_shown s (around_innermost frames) b blank)
           ∙ with_no_trees view.levels);
       texts = sym (append-nil view.texts);
       definitions = sym (ap (λ ds. view.definitions ++ ds) (nothing_defined s b blank) ∙ append-nil view.definitions);
@@ -744,7 +632,7 @@ blank_is_built s view frames inside b blank built =
 pub blank_is_at_end : (pass : Pass) (frames : List Frame) (inside : Forest Block) (b : Block)
     → b.kind ≡ was.blank_line → IsAtEnd pass frames inside → IsAtEnd pass frames (followed_by inside (node b nil nil))
 blank_is_at_end pass frames inside b blank ends = record {
-  at = ends.at ∙ sym (end_appended 0 frames inside (node b nil nil)
-      ∙ ap (λ kind. if is_blank_block kind then placed_end 0 frames inside else block_end b b.first kind) blank);
+  at = ends.at ∙ sym (end_appended frames inside (node b nil nil)
+      ∙ ap (λ kind. if is_blank_block kind then placed_end frames inside else block_end b b.first kind) blank);
   quotes = ends.quotes;
 }

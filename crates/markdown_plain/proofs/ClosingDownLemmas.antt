@@ -1,97 +1,59 @@
 -- Open blocks that are closed one after another, from the innermost on, and room for a block, around a list among
 -- them: the blocks are the same.
-use Rattle.std.proofs.Common.{◌≡◌, ℕ, ◌-◌, Bool, true, false, List, [], ◌∷◌, ◌++◌, None, arith, append_assoc, length}
-use Rattle.std.proofs.Common.{map, take, drop, refl, sym, ap, ◌∙◌, Option, Some, zero, suc, ◌+◌, ◌≤◌, not, subst}
-use Rattle.std.proofs.Common.{take_all, true≢false}
-use Rattle.std.proofs.lemmas.List.{drop_at, length-append, take_at, drop_all, length-take, take-append-drop, take-take}
-use Rattle.std.specs.Prelude.{if◌then◌else◌}
-use Rattle.markdown_base.specs.Forest.{Forest, nil}
-use Rattle.markdown_builder.specs.TreeLevels.{followed_by}
-use Rattle.markdown_lines.specs.declared.list_marker.ListMarker.{ListMarker}
-use Rattle.markdown_base.specs.Source.{Source}
-use Rattle.markdown_lines.specs.SourceLines.{SourceLine}
-use Rattle.markdown_block_rules.specs.BlockGrowth.{Block, goes_on, line_block, next_item, with_line, is_nil}
-use Rattle.markdown_plain.specs.Frames.{AreContainers, AreNested, Frame, Reached, innermost_is, is_list, reached}
-use Rattle.markdown_plain.specs.Frames.{rebuilt, room_depth, touched}
-use Rattle.markdown_plain.specs.declared.pass.Pass.{Pass}
-use Rattle.markdown_plain.specs.Beginning.{HoldsLast, HoldsNone}
-use Rattle.markdown_plain.specs.Closing.{AreItemsInLists, MayEnd, MayClose}
-use Rattle.markdown_plain.specs.OpenBlocks.{without_leaf, has_leaf, outer_of}
-use Rattle.markdown_plain.specs.OpenLeaves.{leaf_block, HoldsParagraph, IsOpenIn, IsPlaced}
-use Rattle.markdown_plain.specs.Settled.{AreOpen, IsBuilt, BlanksKnown, IsLooseAs, IsLooseBefore}
-use Rattle.markdown_plain.specs.Standing.{HasLast, KnowsLast, with_last}
-use Rattle.markdown_builder.specs.BuilderView.{BuilderView}
-use Rattle.markdown_builder.specs.declared.open_block.OpenBlock.{OpenBlock}
-use Rattle.markdown_block_rules.specs.BlockRules.{ends_blank}
-use Rattle.markdown_plain.specs.declared.looseness.Looseness.{Looseness}
-use Rattle.markdown_plain.specs.Closable.{AreClosable, IsClosable}
-use Rattle.markdown_plain.specs.OpenedFrames.{MayOpen}
-use Rattle.markdown_plain.specs.PassSteps.{ClosesBlock, ClosesDown, HasOnly, IsRoomIn, MakesRoom, MayCloseTo, between}
-use Rattle.markdown_plain.specs.PassSteps.{opened}
+use Rattle.std.proofs.Common.{◌≡◌, ℕ, ◌-◌, true, false, List, [], ◌∷◌, ◌++◌, None, arith, append_assoc, length, map}
+use Rattle.std.proofs.Common.{take, refl, sym, ap, ◌∙◌, Option, Some, suc, ◌≤◌, not, subst, take_all, true≢false}
+use Rattle.markdown_plain.proofs.Names.{Forest, nil, followed_by, ListMarker, Source, SourceLine, Block, goes_on}
+use Rattle.markdown_plain.proofs.Names.{line_block, next_item, with_line, is_nil, AreContainers, AreNested, Frame}
+use Rattle.markdown_plain.proofs.Names.{innermost_is, is_list, reached, rebuilt, room_depth, touched, outer_within}
+use Rattle.markdown_plain.proofs.Names.{closed_in, forgotten, Pass, HoldsLast, AreItemsInLists, MayEnd, without_leaf}
+use Rattle.markdown_plain.proofs.Names.{has_leaf, outer_of, leaf_block, HoldsParagraph, IsOpenIn, IsPlaced, AreOpen}
+use Rattle.markdown_plain.proofs.Names.{IsBuilt, BlanksKnown, IsLooseAs, IsLooseBefore, HasLast, with_last, BuilderView}
+use Rattle.markdown_plain.proofs.Names.{OpenBlock, Looseness, AreClosable, MayOpen, ClosesDown, MakesRoom, between}
+use Rattle.std.proofs.lemmas.List.{length-take, take-take}
+use Rattle.std.specs.Prelude.{nat_lt}
+use Rattle.markdown_plain.specs.Beginning.{HoldsNone}
+use Rattle.markdown_plain.specs.Closing.{MayClose}
+use Rattle.markdown_plain.specs.Standing.{KnowsLast}
+use Rattle.markdown_plain.specs.Closable.{IsClosable}
+use Rattle.markdown_plain.specs.PassSteps.{ClosesBlock, HasOnly, IsRoomIn, MayCloseTo, opened}
 use Rattle.markdown_plain.specs.OpenBlocks as own
 use Rattle.markdown_plain.specs.OpenLeaves as leaves
-use Rattle.markdown_plain.proofs.FramesLemmas.{innermost_apart, marker_of_list, by_test, block_begins, list_ends}
-use Rattle.markdown_plain.proofs.FramesLemmas.{outer_taken, reached_parts, rebuilt_in}
+use Rattle.markdown_plain.proofs.FramesLemmas.{innermost_apart, marker_of_list, block_begins, list_ends}
+use Rattle.markdown_plain.proofs.LeafTreesLemmas.{by_test}
+use Rattle.markdown_plain.proofs.FramesLemmas.{outer_taken, reached_parts, rebuilt_in, all_within, list_of_open}
+use Rattle.markdown_plain.proofs.FramesLemmas.{within_parts, inner_left}
 use Rattle.markdown_plain.proofs.OpenTablesLemmas.{without_built, without_open, IsRoom, room_is, built_outside}
 use Rattle.markdown_plain.proofs.OpenTablesLemmas.{open_has_leaf}
-use Rattle.markdown_plain.proofs.LeafTreesLemmas.{on_test, length_of_outer, take_of_outer}
+use Rattle.markdown_plain.proofs.LeafTreesLemmas.{length_of_outer, take_of_outer}
 use Rattle.markdown_plain.proofs.ClosableLemmas.{closed_here}
-use Rattle.markdown_plain.proofs.ClosedFramesLemmas.{last_kept, list_in_the_way, no_list_closed, one_less}
-use Rattle.markdown_plain.proofs.ClosedFramesLemmas.{open_containers}
+use Rattle.markdown_plain.proofs.ClosedFramesLemmas.{one_less, ClosedTo, within, room_of, open_containers}
 use Rattle.markdown_plain.proofs.OpenedFramesLemmas.{as_many_containers, list_innermost, room_is_free}
 
 -- ---- room around a list
 
--- the containers around such a block, of those that a line reaches: all, or all but the list
-record IsRoomOf (frames outer inner : List Frame) (n : ℕ) : Type 0 where
-  outside : take n frames ≡ outer
-  inside : drop n frames ≡ inner
-
-parted_at : (frames outer inner : List Frame) (n : ℕ) → outer ++ inner ≡ frames → n ≡ length outer
-    → IsRoomOf frames outer inner n
-parted_at frames outer inner n parts is =
-    rw (← parts) (record { outside = take_at outer inner n (sym is); inside = drop_at outer inner n (sym is) })
-
 module _ (s : Source) (frames : List Frame) (inside : Forest Block) (l : SourceLine) (are : AreContainers frames)
     (nested : AreNested frames) where
-  depth_reached : (list : Bool) → innermost_is is_list (reached s frames inside l).outer ≡ list
-      → room_depth (length (reached s frames inside l).outer) frames
-      ≡ (if list then length (reached s frames inside l).outer - 1 else length (reached s frames inside l).outer)
-  depth_reached list is = rw (outer_taken s frames inside l, is) refl
-
   -- a line makes of blocks the same with what it begins after them, where nothing goes on and no item begins
   pub begins_in_room :
       goes_on s (rebuilt (reached s frames inside l).inner inside) (reached s frames inside l).rest ≡ None
       → ((marker : ListMarker) → next_item s (reached s frames inside l).rest marker ≡ None)
       → with_line s (rebuilt frames inside) l
-      ≡ rebuilt (map (touched l) (take (room_depth (length (reached s frames inside l).outer) frames) frames))
-      (followed_by (rebuilt (drop (room_depth (length (reached s frames inside l).outer) frames) frames) inside)
+      ≡ rebuilt (map (touched l) (outer_within (room_depth (length (reached s frames inside l).outer) frames) frames))
+      (followed_by (closed_in (room_depth (length (reached s frames inside l).outer) frames) frames inside)
       (line_block s (reached s frames inside l).rest))
-  begins_in_room none no_item = by_test (innermost_is is_list r.outer) (λ is.
-      let list = innermost_apart is_list r.outer is in
-      let marked = marker_of_list list.last.block.kind list.passes in
-      let many = ap length list.are ∙ length-append list.outer (list.last ∷ []) in
-      let size : n ≡ length list.outer = depth_reached true is ∙ omega (arith, many) in
-      let parts : list.outer ++ (list.last ∷ r.inner) ≡ frames = sym (append_assoc list.outer (list.last ∷ []) r.inner)
-      ∙ (ap (λ (fs : List Frame). fs ++ r.inner) (sym list.are) ∙ reached_parts s frames inside l) in
-      list_ends s frames inside l are nested list.outer list.last marked.marker list.are marked.is none
-      (no_item marked.marker)
-      ∙ same_made list.outer (list.last ∷ r.inner) (parted_at frames list.outer (list.last ∷ r.inner) n parts size))
-      (λ plain. block_begins s frames inside l are nested none plain
-      ∙ same_made r.outer r.inner (parted_at frames r.outer r.inner n (reached_parts s frames inside l)
-      (depth_reached false plain)))
-    where
-      r : Reached
-      r = reached s frames inside l
-
-      n : ℕ
-      n = room_depth (length r.outer) frames
-
-      same_made : (outer inner : List Frame) → IsRoomOf frames outer inner n
-          → rebuilt (map (touched l) outer) (followed_by (rebuilt inner inside) (line_block s r.rest))
-          ≡ rebuilt (map (touched l) (take n frames))
-          (followed_by (rebuilt (drop n frames) inside) (line_block s r.rest))
-      same_made outer inner is = rw (is.outside, is.inside) refl
+  begins_in_room none no_item =
+      let r = reached s frames inside l in
+      rw outer_taken (by_test (innermost_is is_list r.outer) (λ is.
+      let list = innermost_apart is_list r.outer is in let marked = marker_of_list list.last.block.kind list.passes in
+      let parts : (r.inner ++ list.last ∷ []) ++ list.outer ≡ frames =
+      append_assoc r.inner (list.last ∷ []) list.outer ∙ (ap (λ (fs : List Frame). r.inner ++ fs) (sym list.are)
+      ∙ reached_parts s frames inside l) in
+      let size : length r.outer - 1 ≡ length list.outer = omega (arith, ap length list.are) in
+      let there = rw parts at (within_parts (r.inner ++ list.last ∷ []) list.outer (length list.outer) refl) in
+      rw (is, size, there.0, there.1 inside, rebuilt_in)
+      (list_ends s frames inside l are nested list.outer list.last marked.marker list.are marked.is none
+      (no_item marked.marker))) (λ plain.
+      rw (plain, outer_taken, inner_left) (block_begins s frames inside l are nested none plain)))
 
 -- ---- what is open before the line
 
@@ -196,9 +158,8 @@ leaf_ended old new is depth few =
       forgets = λ s frames inside last holds.
           let may = last_ended s old new is frames inside last holds in
           let many = open_containers s new frames (with_last inside last) may in
-          let within : length frames ≤ depth = omega (arith, few, many, ap (λ (bs : List OpenBlock). length bs) is.are)
-          in
-          rw (take_all depth frames within, drop_all depth frames within) may;
+          within (MayClose s new) depth frames (with_last inside last)
+          (omega (arith, few, many, ap (λ (bs : List OpenBlock). length bs) is.are)) may;
       kept = λ leaf lines all. is.kept leaf lines;
       are = is.are ∙ sym (take_all depth (without_leaf old.placing.builder) few);
       text = is.text;
@@ -230,8 +191,9 @@ one_closed old mid new n down many closes =
     let placed : mid.placed ≡ old.placed = ap (λ (p : Pass). p.placed) down.same in
     record {
       forgets = λ s frames inside last holds.
-          one_less s mid new frames (with_last inside last) (suc n) n (sym many) refl
-          (down.forgets s frames inside last holds) (closes.forgets s);
+          let may = down.forgets s frames inside last holds in
+          one_less (MayClose s mid) (MayClose s new) n frames (with_last inside last)
+          (λ f outer below. closes.forgets s outer f below) (sym (open_containers s mid _ _ may) ∙ many) may;
       kept = λ leaf lines few.
           let are = ap (λ (bs : List OpenBlock). length bs) down.are in
           let all : without_leaf old.placing.builder ≡ old.placing.builder.blocks = rw leaf refl in
@@ -265,23 +227,17 @@ one_closed old mid new n down many closes =
 
 -- ---- nothing but containers is open then
 
-known_outside : (from : Option ℕ) (outside : ℕ) (frames more : List Frame) (inside : Forest Block)
-    → BlanksKnown from outside (frames ++ more) inside → BlanksKnown from outside frames (rebuilt more inside)
-known_outside from outside [] more inside known = tt
-known_outside from outside (f ∷ frames) more inside known = (
-  λ other. known.0 other ∙ ap (ends_blank false) (rebuilt_in frames more inside),
-  known_outside from (outside + 1) frames more inside known.1,
-)
-
 -- of the outermost containers it is known how they end once the others are closed
 pub known_of_outermost : (from : Option ℕ) (n : ℕ) (frames : List Frame) (inside : Forest Block)
-    → BlanksKnown from 0 frames inside → BlanksKnown from 0 (take n frames) (rebuilt (drop n frames) inside)
-known_of_outermost from n frames inside known =
-    known_outside from 0 (take n frames) (drop n frames) inside (rw (take-append-drop n frames) known)
+    → BlanksKnown from frames inside → ClosedTo (BlanksKnown from) n frames inside
+known_of_outermost from n [] inside known = tt
+known_of_outermost from n (f ∷ outer) inside known =
+    by_test (nat_lt (length outer) n) (λ less. rw less known)
+    (λ more. rw more (known_of_outermost from n outer (forgotten f inside) known.1))
 
 pub only_containers : (s : Source) (old mid : Pass) (depth : ℕ) (frames : List Frame) (inside : Forest Block)
     (last : Option Block) → MayCloseTo s old depth frames inside last → ClosesDown old mid depth
-    → HasOnly s mid (take depth frames) (rebuilt (drop depth frames) (with_last inside last))
+    → HasOnly s mid (outer_within depth frames) (closed_in depth frames (with_last inside last))
 only_containers s old mid depth frames inside last (between holds known unheld) down =
     let from : mid.looseness.blank_from ≡ old.looseness.blank_from =
     ap (λ (p : Pass). p.looseness.blank_from) down.same in
@@ -291,8 +247,7 @@ only_containers s old mid depth frames inside last (opened may none deep) down =
     let many = as_many_containers s old.placing.builder frames nil may.built in
     let kept = down.kept (built_outside s old.placing.builder frames nil may.built) may.lines
     (omega (arith, many, deep)) in
-    rw (take_all depth frames (omega (arith, deep)), drop_all depth frames (omega (arith, deep)), kept)
-    (opened may none)
+    let all = all_within frames depth (omega (arith, deep)) in rw (all.0, all.1, kept) (opened may none)
 
 -- ---- a list in the way
 
@@ -306,51 +261,37 @@ pub data ClosesList (old new : Pass) : Type 0 where
 pub record IsFree (s : Source) (pass : Pass) (frames : List Frame) (inside : Forest Block) : Type 0 where
   pub built : IsBuilt s pass.placing.builder frames inside
   pub loose : IsLooseAs pass.looseness frames inside
-  pub known : is_nil inside ≡ false → BlanksKnown pass.looseness.blank_from 0 frames inside
+  pub known : is_nil inside ≡ false → BlanksKnown pass.looseness.blank_from frames inside
   pub free : innermost_is is_list frames ≡ false
 
-known_around : (from : Option ℕ) (depth : ℕ) (frames : List Frame) (inside : Forest Block) → depth ≤ length frames
-    → BlanksKnown from 0 (take depth frames) (rebuilt (drop depth frames) inside)
-    → BlanksKnown from 0 (take (room_depth depth frames) frames)
-    (rebuilt (drop (room_depth depth frames) frames) inside)
-known_around from depth frames inside few known =
-    on_test (λ n. BlanksKnown from 0 (take n frames) (rebuilt (drop n frames) inside))
-    (innermost_is is_list (take depth frames)) (depth - 1) depth (λ list. one_less_known depth few known)
-    (λ other. known)
-  where
-    one_less_known : (n : ℕ) → n ≤ length frames → BlanksKnown from 0 (take n frames) (rebuilt (drop n frames) inside)
-        → BlanksKnown from 0 (take (n - 1) frames) (rebuilt (drop (n - 1) frames) inside)
-    one_less_known zero few known = known
-    one_less_known (suc n) few known =
-        let last = last_kept n frames (omega (arith, few)) in
-        let fewer : suc n - 1 ≡ n = omega arith in
-        rw (fewer, last.dropped) (known_outside from 0 (take n frames) (last.f ∷ [])
-        (rebuilt (drop (suc n) frames) inside)
-        (rw (← last.taken) known))
-
 pub list_cleared : (s : Source) (old now : Pass) (depth : ℕ) (frames : List Frame) (inside : Forest Block)
-    → depth ≤ length frames → AreNested frames → HasOnly s old (take depth frames) (rebuilt (drop depth frames) inside)
+    → depth ≤ length frames → AreNested frames → HasOnly s old (outer_within depth frames)
+    (closed_in depth frames inside)
     → ClosesList old now
-    → IsFree s now (take (room_depth depth frames) frames) (rebuilt (drop (room_depth depth frames) frames) inside)
+    → IsFree s now (outer_within (room_depth depth frames) frames) (closed_in (room_depth depth frames) frames inside)
 list_cleared s old now depth frames inside few nested (between may known) (closed_list list closes) =
-    let moved = list_in_the_way s old now depth frames inside few may list (closes.forgets s) in
+    let test = sym (list_of_open _ _ (outer_within depth frames) may.stands.built.blocks) ∙ list in
+    let moved = room_of (MayClose s old) (MayClose s now) depth frames inside few test
+    (λ f outer below. closes.forgets s outer f below) may in
     record {
       built = moved.stands.built;
       loose = moved.loose;
       known = λ some. rw (ap (λ (p : Pass). p.looseness.blank_from) closes.same)
-          (known_around old.looseness.blank_from depth frames inside few known);
+          (room_of (BlanksKnown old.looseness.blank_from) (BlanksKnown old.looseness.blank_from) depth frames inside few
+          test (λ f outer below all. all.1) known);
       free = room_is_free depth frames few nested;
     }
 list_cleared s old now depth frames inside few nested (between may known) (no_list other same) =
-    let moved = no_list_closed s old depth frames inside few may other in
-    rw same (record {
-      built = moved.stands.built;
-      loose = moved.loose;
-      known = λ some. known_around old.looseness.blank_from depth frames inside few known;
-      free = room_is_free depth frames few nested;
+    let test = sym (list_of_open _ _ (outer_within depth frames) may.stands.built.blocks) ∙ other in
+    rw (same, test) (record {
+      built = may.stands.built;
+      loose = may.loose;
+      known = λ some. known;
+      free = test;
     })
 list_cleared s old now depth frames inside few nested (opened may none) (closed_list list closes) =
-    absurd (true≢false (sym list ∙ (list_innermost s old.placing.builder (take depth frames) nil may.built ∙ may.free)))
+    absurd (true≢false (sym list ∙ (list_innermost s old.placing.builder (outer_within depth frames) nil may.built
+    ∙ may.free)))
 list_cleared s old now depth frames inside few nested (opened may none) (no_list other same) =
     rw (same, may.free, none) (record {
       built = may.built;
@@ -365,7 +306,7 @@ AddsBlock now new =
     (texts : List (List ℕ)) (frames : List Frame) (inside : Forest Block)
     → AreOpen texts now.placing.builder.blocks frames → AreNested frames → innermost_is is_list frames ≡ false
     → IsLooseAs now.looseness frames inside
-    → (is_nil inside ≡ false → BlanksKnown now.looseness.blank_from 0 frames inside) → IsLooseBefore new frames inside
+    → (is_nil inside ≡ false → BlanksKnown now.looseness.blank_from frames inside) → IsLooseBefore new frames inside
 
 -- where a block may begin, it is recorded that it does
 pub looseness_begins : (s : Source) (now : Pass) (new : Looseness) (frames : List Frame) (inside : Forest Block)
@@ -457,6 +398,6 @@ built_only s pass frames inside (opened may none) = rw none may.built
 pub room_here : (s : Source) (old new : Pass) (depth : ℕ) (frames : List Frame) → MakesRoom old new depth
     → MayOpen s old frames → depth ≡ length frames → IsRoomIn s new frames nil
 room_here s old new depth frames makes may deep =
-    let all = take_all (length frames) frames (omega arith) in
+    let all = all_within frames (length frames) (omega arith) in
     let there = makes.room s frames nil None (opened may refl deep) (omega (arith, deep)) in
-    rw (deep, all, may.free, all, drop_all (length frames) frames (omega arith)) at there
+    rw (deep, all.0, may.free, all.0, all.1) at there

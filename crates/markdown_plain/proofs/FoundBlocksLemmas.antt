@@ -1,59 +1,35 @@
 -- What a reader of the rest of a line finds is what the line begins, as the definition says, in the containers where
 -- there is room for it; and text that is found there, as a line of a paragraph.
-use Rattle.std.proofs.Common.{◌≡◌, ℕ, ◌+◌, ◌&&◌, ◌||◌, ◌==◌, Bool, true, false, List, Option, Some, None, refl, sym, ap}
+use Rattle.std.proofs.Common.{◌≡◌, ℕ, ◌==◌, ◌&&◌, Bool, true, false, List, Option, Some, None, refl, sym, ap, rules}
 use Rattle.std.proofs.Common.{◌∙◌, subst, inl, inr, ◌<◌, ◌≤◌, length, drop, arith}
-use Rattle.std.proofs.lemmas.Option.{none-some}
+use Rattle.markdown_plain.proofs.Names.{none-some, prefix_len, or_parts, eqb_tells, nat_tests, prefix_len-le-length}
+use Rattle.markdown_plain.proofs.Names.{any_metadata, Forest, Syntax, MetadataBlockKind, LineLeft, Source, Beginning}
+use Rattle.markdown_plain.proofs.Names.{begins, metadata_in_line, beginning_found, left_at, line_at, source_read}
+use Rattle.markdown_plain.proofs.Names.{is_space_or_tab, IsLineFrom, left_from, SourceLine, is_blank_rest, text_line}
+use Rattle.markdown_plain.proofs.Names.{BlockStart, LineReader, Block, Kind, begun_by, content_of, inside_of}
+use Rattle.markdown_plain.proofs.Names.{new_blocks, LineRest, Pass, IsFound, IsHere, IsLeft, Turn, first, later}
+use Rattle.markdown_plain.proofs.Names.{HasRoom, MayBegin, Frame, rebuilt, followed_by, Line, Looseness, source_of}
+use Rattle.markdown_plain.proofs.Names.{lines_end, IsLooseBefore, IsHeldLine, HeldLine, in_part, rest_of_part}
+use Rattle.markdown_plain.proofs.Names.{IsTextLine, BeginsText, IsContentAt, held_line}
 use Rattle.std.specs.Prelude.{if◌then◌else◌, unwrap_or, slice_range, slice_index}
-use Rattle.std.specs.List.{list_all, prefix_len}
 use Rattle.std.specs.Option.{option_and_then}
 use Rattle.std.proofs.lemmas.Bool.{true≢false}
-use Rattle.std.proofs.lemmas.Bool.Decides.{eqb_tells, nat_tests}
-use Rattle.std.proofs.lemmas.List.Sums.{prefix_len-le-length, prefix_len_stops}
-use Rattle.markdown_base.specs.Syntax.{any_metadata}
-use Rattle.markdown_base.specs.Forest.{Forest}
-use Rattle.markdown_base.specs.declared.syntax.Syntax.{Syntax}
-use Rattle.markdown_base.specs.declared.tag.MetadataBlockKind.{MetadataBlockKind}
-use Rattle.markdown_scan.specs.LineStart.{LineLeft, leading_space}
-use Rattle.markdown_base.specs.Source.{Source}
-use Rattle.markdown_lines.specs.BlockBeginnings.{Beginning, begins, begins_after, is_paragraph, metadata_begun}
-use Rattle.markdown_lines.specs.BlockBeginnings.{metadata_in_line}
-use Rattle.markdown_lines.specs.BlockStarts.{IsSameLine, begins_unless_blank, beginning_found, left_at, line_at}
-use Rattle.markdown_lines.specs.BlockStarts.{source_read}
-use Rattle.markdown_lines.specs.Lines.{is_space_or_tab, IsLineFrom}
-use Rattle.markdown_lines.specs.MetadataBlocks.{are_of_metadata, line_opens, lines_at, metadata_opened, opened_before}
-use Rattle.markdown_lines.specs.Positions.{left_from}
-use Rattle.markdown_lines.specs.SourceLines.{SourceLine, is_blank_rest, text_line}
+use Rattle.std.proofs.lemmas.List.Sums.{prefix_len_stops}
+use Rattle.markdown_lines.specs.BlockStarts.{IsSameLine}
+use Rattle.markdown_lines.specs.MetadataBlocks.{line_opens, opened_before}
 use Rattle.markdown_lines.specs.declared.block_start.Before.{Before}
-use Rattle.markdown_lines.specs.declared.block_start.BlockStart.{BlockStart}
-use Rattle.markdown_lines.specs.declared.line_reader.LineReader.{LineReader}
-use Rattle.markdown_block_rules.specs.BlockGrowth.{Block, Kind, begun_by, content_of, inside_of, new_blocks}
-use Rattle.markdown_plain.specs.declared.beginnings.LineRest.{LineRest}
-use Rattle.markdown_plain.specs.declared.pass.Pass.{Pass}
-use Rattle.markdown_plain.specs.Beginning.{IsFirst, IsFound, IsHere, IsInside, IsLeft, Turn, first, later, HasRoom}
-use Rattle.markdown_plain.specs.Beginning.{MayBegin, MayBeginBlock}
-use Rattle.markdown_plain.specs.Frames.{Frame, rebuilt}
-use Rattle.markdown_plain.specs.ReachedLines.{Before as LineBefore}
-use Rattle.markdown_builder.specs.TreeLevels.{followed_by}
-use Rattle.markdown_lines.specs.declared.line.Line.{Line}
-use Rattle.markdown_plain.specs.declared.looseness.Looseness.{Looseness}
-use Rattle.markdown_plain.specs.Paragraphs.{source_of, lines_end}
-use Rattle.markdown_plain.specs.Settled.{IsLooseBefore}
-use Rattle.markdown_lines.specs.HeldLines.{IsHeldLine}
-use Rattle.markdown_lines.specs.declared.held_line.HeldLine.{HeldLine}
+use Rattle.markdown_plain.specs.Beginning.{MayBeginBlock}
 use Rattle.markdown_lines.proofs.BlockStartsLemmas.{is_blank}
-use Rattle.markdown_lines.proofs.PositionsLemmas.{in_part, rest_of_part}
-use Rattle.markdown_plain.specs.HeldSources.{IsTextLine}
-use Rattle.markdown_plain.specs.OpenLeaves.{BeginsText, ComesAfter}
-use Rattle.markdown_plain.specs.TextLines.{IsContentAt, held_line, text_block}
+use Rattle.markdown_plain.specs.OpenLeaves.{ComesAfter}
+use Rattle.markdown_plain.specs.TextLines.{text_block}
 use Rattle.markdown_base.specs.declared.tag.MetadataBlockKind.TheVariants as metadata
-use Rattle.markdown_lines.specs.BlockBeginnings as beginning
 use Rattle.markdown_lines.specs.declared.block_start.BlockStart.TheVariants as start
 use Rattle.markdown_plain.proofs.BegunLemmas.{begun_once}
 
 -- ---- what a reader finds
 
 -- a reader of the same line has found the same
-found_same : (old new : LineReader) (start : BlockStart) → IsSameLine old new
+pub found_same : (old new : LineReader) (start : BlockStart) → IsSameLine old new
     → beginning_found new start ≡ beginning_found old start
 found_same old new (start.IndentedCode code) same = rw (same.text, same.stop) refl
 found_same old new (start.Quote inside) same = rw (same.text, same.stop) refl
@@ -64,40 +40,20 @@ found_same old new other same = refl
 -- the rest of a line is the same for it
 left_same : (s : Source) (rest : LineRest) (new : LineReader) (source : SourceLine) → IsSameLine rest.reader new
     → IsLeft s rest source → IsLeft s (record rest { reader = new }) source
-left_same s rest new source same left = record {
-  is = left.is;
-  text = rw (same.text, same.syntax) left.text;
-  stop = same.stop ∙ left.stop;
-  start = same.start ∙ left.start;
-  next = same.next ∙ left.next;
-  indent = left.indent;
-  outermost = rw (same.outermost, same.start) left.outermost;
-  after = left.after;
-  boundary = left.boundary;
-  from = left.from;
-  utf8 = left.utf8;
-}
+left_same s rest new source same left =
+    let text : source_read new ≡ s = rw (same.text, same.syntax) left.text in
+    let outermost : any_metadata s.syntax ≡ true
+    → (new.outermost && (rest.position.at == new.start)) ≡ source.outermost =
+    rw (same.outermost, same.start) left.outermost in
+    assumption (text, same.stop ∙ left.stop, same.start ∙ left.start, same.next ∙ left.next, outermost, left)
 
-inside_same : (s : Source) (pass : Pass) (rest : LineRest) (new : LineReader) (frames : List Frame)
-    (source : SourceLine) (blocks : Forest Block) → IsSameLine rest.reader new
-    → IsInside s pass rest frames source blocks → IsInside s pass (record rest { reader = new }) frames source blocks
-inside_same s pass rest new frames source blocks same state =
-    assumption (left_same s rest new source same state.left)
-
-first_same : (s : Source) (pass : Pass) (rest : LineRest) (new : LineReader) (before : LineBefore)
-    (line source : SourceLine) (blocks : Forest Block) → IsSameLine rest.reader new
-    → IsFirst s pass rest before line source blocks
-    → IsFirst s pass (record rest { reader = new }) before line source blocks
-first_same s pass rest new before line source blocks same state =
-    assumption (left_same s rest new source same state.left)
-
-here_same : (s : Source) (pass : Pass) (rest : LineRest) (new : LineReader) (turn : Turn) (source : SourceLine)
+pub here_same : (s : Source) (pass : Pass) (rest : LineRest) (new : LineReader) (turn : Turn) (source : SourceLine)
     (blocks : Forest Block) → IsSameLine rest.reader new → IsHere s pass rest turn source blocks
     → IsHere s pass (record rest { reader = new }) turn source blocks
 here_same s pass rest new (first before line) source blocks same state =
-    first_same s pass rest new before line source blocks same state
+    assumption (left_same s rest new source same state.left)
 here_same s pass rest new (later frames) source blocks same state =
-    inside_same s pass rest new frames source blocks same state
+    assumption (left_same s rest new source same state.left)
 
 -- what is left of the line is known at either turn
 pub here_left : (s : Source) (pass : Pass) (rest : LineRest) (turn : Turn) (source : SourceLine)
@@ -113,73 +69,39 @@ here_text s pass rest (later frames) source blocks state = ap (λ (s : Source). 
 
 -- ---- what was found
 
-not_read : (read are : Bool) (kind : MetadataBlockKind) → read ≡ false
-    → (if read && are then Some kind else None) ≡ None
-not_read true are kind none = absurd (true≢false none)
-not_read false are kind none = refl
-
-neither : (one other : Bool) → (one || other) ≡ false → (one ≡ false) × (other ≡ false)
-neither true other none = absurd (true≢false none)
-neither false other none = (refl, none)
-
 -- where no metadata is read, a line opens none
 none_opens : (syntax : Syntax) (text : List ℕ) (next : ℕ) (opens : Option MetadataBlockKind)
     → any_metadata syntax ≡ false → option_and_then (opened_before syntax text next) opens ≡ None
 none_opens syntax text next None none = refl
-none_opens syntax text next (Some metadata.YamlStyle) none =
-    not_read (syntax.yaml)
-    (are_of_metadata metadata.YamlStyle (lines_at text next)) metadata.YamlStyle
-    (neither (syntax.yaml)
-    (syntax.pluses) none).0
-none_opens syntax text next (Some metadata.PlusesStyle) none =
-    not_read (syntax.pluses)
-    (are_of_metadata metadata.PlusesStyle (lines_at text next)) metadata.PlusesStyle
-    (neither (syntax.yaml)
-    (syntax.pluses) none).1
+none_opens syntax text next (Some metadata.YamlStyle) none = rw (or_parts syntax.yaml syntax.pluses none).0 refl
+none_opens syntax text next (Some metadata.PlusesStyle) none = rw (or_parts syntax.yaml syntax.pluses none).1 refl
 
 -- so whether it is directly under the root is not asked
-either_outermost : (before : Before) (opened : Option MetadataBlockKind) (one other : Bool) → opened ≡ None
-    → (if one then option_and_then (metadata_begun before) opened else None)
-    ≡ (if other then option_and_then (metadata_begun before) opened else None)
-either_outermost before opened one other none = none_of one ∙ sym (none_of other)
-  where
-    none_of : (b : Bool) → (if b then option_and_then (metadata_begun before) opened else None) ≡ None
-    none_of true = ap (option_and_then (metadata_begun before)) none
-    none_of false = refl
-
 same_metadata : (s : Source) (before : Before) (left : LineLeft) (next : ℕ) (one other reads : Bool)
     → any_metadata s.syntax ≡ reads → (reads ≡ true → one ≡ other)
     → metadata_in_line s before (record { left = left; next = next; outermost = one; indent = None })
     ≡ metadata_in_line s before (record { left = left; next = next; outermost = other; indent = None })
-same_metadata s before left next one other true reads same =
-    ap (λ outermost. metadata_in_line s before
-    (record { left = left; next = next; outermost = outermost; indent = None })) (same refl)
-same_metadata s before left next one other false reads same =
-    either_outermost before (metadata_opened s.syntax s.text left.bytes next) one other
-    (none_opens s.syntax s.text next (line_opens left.bytes) reads)
-
--- what a line begins, where this is what it opens of metadata
-abbrev begins_or : Source → Before → LineLeft → Option Beginning → Beginning
-begins_or s before left opens =
-    let space = leading_space 4 left in
-    if space.columns == 4 then (if is_paragraph before then beginning.begins_text
-    else beginning.begins_indented space.after)
-    else unwrap_or opens (begins_after s before space.columns space.after)
+same_metadata s before left next one other true reads same = rw (same refl) refl
+same_metadata s before left next one other false reads same = none_of one ∙ sym (none_of other)
+  where
+    none_of : (outermost : Bool)
+        → metadata_in_line s before (record { left = left; next = next; outermost = outermost; indent = None }) ≡ None
+    none_of true = rw (none_opens s.syntax s.text next (line_opens left.bytes) reads) refl
+    none_of false = refl
 
 -- what two lines begin of which the same is left
 same_begins : (s : Source) (before : Before) (one other : SourceLine) → one.left ≡ other.left → one.next ≡ other.next
     → (any_metadata s.syntax ≡ true → one.outermost ≡ other.outermost) → begins s before one ≡ begins s before other
 same_begins s before one other left next outermost =
-    ap (λ (l : LineLeft). begins s before
-    (record { left = l; next = one.next; outermost = one.outermost; indent = None })) left
-    ∙ (ap (λ n. begins s before
-    (record { left = other.left; next = n; outermost = one.outermost; indent = None })) next
-    ∙ ap (begins_or s before other.left)
-    (same_metadata s before other.left other.next one.outermost other.outermost (any_metadata s.syntax) refl
-    outermost))
+    rw (
+      left,
+      next,
+      same_metadata s before other.left other.next one.outermost other.outermost (any_metadata s.syntax)
+          refl outermost,
+    ) refl
 
 -- the line as the reader has it
-line_same : (s : Source) (rest : LineRest) (source : SourceLine) (before : Before) → IsLeft s rest source
+pub line_same : (s : Source) (rest : LineRest) (source : SourceLine) (before : Before) → IsLeft s rest source
     → (left_at rest.reader rest.position ≡ source.left)
     × (begins s before (line_at rest.reader rest.position) ≡ begins s before source)
 line_same s rest source before left =
@@ -189,41 +111,6 @@ line_same s rest source before left =
       same,
       same_begins s before (line_at rest.reader rest.position) source same left.next left.outermost,
     )
-
--- what was found is what the line begins
-is_found : (s : Source) (rest : LineRest) (new : LineReader) (source : SourceLine) (at : ℕ) (start : BlockStart)
-    → IsLeft s rest source → IsSameLine rest.reader new
-    → beginning_found rest.reader start
-    ≡ begins_unless_blank (source_read rest.reader) rest.before (line_at rest.reader rest.position)
-    → at ≡ rest.position.at + prefix_len is_space_or_tab (left_at rest.reader rest.position).bytes
-    → IsFound s (record rest { reader = new }) source at start
-is_found s rest new source at start left same found place =
-    let there = line_same s rest source rest.before left in
-    record {
-      is = found_same rest.reader new start same
-          ∙ (found
-          ∙ (ap (λ r. begins_unless_blank r rest.before (line_at rest.reader rest.position)) left.text
-          ∙ (ap (λ (l : LineLeft). if list_all is_space_or_tab l.bytes then None
-          else Some (begins s rest.before (line_at rest.reader rest.position))) there.0
-          ∙ ap (λ (b : Beginning). if is_blank_rest source then None else Some b) there.1)));
-      begins = place ∙ ap (λ (l : LineLeft). l.scanned + prefix_len is_space_or_tab l.bytes) there.0;
-    }
-
--- both, where nothing else has changed
-pub here_found : (s : Source) (pass : Pass) (rest : LineRest) (new : LineReader) (turn : Turn)
-    (source : SourceLine) (blocks : Forest Block) (at : ℕ) (begun start : BlockStart) → begun ≡ start
-    → IsSameLine rest.reader new
-    → beginning_found rest.reader begun
-    ≡ begins_unless_blank (source_read rest.reader) rest.before (line_at rest.reader rest.position)
-    → at ≡ rest.position.at + prefix_len is_space_or_tab (left_at rest.reader rest.position).bytes
-    → IsHere s pass rest turn source blocks
-    → IsHere s pass (record rest { reader = new }) turn source blocks
-    × IsFound s (record rest { reader = new }) source at start
-here_found s pass rest new turn source blocks at begun start is same found place state = (
-  here_same s pass rest new turn source blocks same state,
-  is_found s rest new source at start (here_left s pass rest turn source blocks state) same
-      (ap (beginning_found rest.reader) (sym is) ∙ found) place,
-)
 
 -- a line that begins something is not blank, and begins this
 some_begun : (b begun : Beginning) (blank : Bool) → Some b ≡ (if blank then None else Some begun)
@@ -249,19 +136,11 @@ pub record KeepsRest (old now : Pass) : Type 0 where
 
 pub keeps_rest : (old now : Pass) → now ≡ record old { placing = now.placing; leaf = now.leaf }
     → now.placing.builder.text ≡ old.placing.builder.text → KeepsRest old now
-keeps_rest old now same text = record {
-  text = text;
-  syntax = ap (λ (p : Pass). p.syntax) same;
-  lines = ap (λ (p : Pass). p.lines.items) same;
-  blanks = ap (λ (p : Pass). p.blanks.items) same;
-  looseness = ap (λ (p : Pass). p.looseness) same;
-}
+keeps_rest old now same text = search (rules, text, same)
 
 pub keeps_leaf : (old now : Pass) → now ≡ record old { placing = now.placing }
     → now.placing.builder.text ≡ old.placing.builder.text → KeepsRest old now
-keeps_leaf old now same text =
-    keeps_rest old now (same ∙ ap (λ leaf. record old { placing = now.placing; leaf = leaf })
-    (sym (ap (λ (p : Pass). p.leaf) same))) text
+keeps_leaf old now same text = search (rules, text, same)
 
 -- the text and its syntax stay
 pub source_kept : (s : Source) (old now : Pass) → now.placing.builder.text ≡ old.placing.builder.text
@@ -290,8 +169,7 @@ pub begun_in_room : {s : Source} {pass : Pass} {rest : LineRest} {source : Sourc
     {blocks : Forest Block} (room : HasRoom s pass rest source b blocks)
     → blocks ≡ rebuilt room.frames (followed_by room.inside (new_blocks (inside_of (begun_by s) source) source b))
 begun_in_room {s} {pass} {rest} {source} {b} {blocks} room =
-    room.whole
-    ∙ ap (λ made. rebuilt room.frames (followed_by room.inside made))
+    room.whole ∙ ap (λ made. rebuilt room.frames (followed_by room.inside made))
     (begun_once s source ∙ ap (new_blocks (inside_of (begun_by s) source) source) room.is)
 
 -- where room was made the text is the same
@@ -299,30 +177,27 @@ pub room_kept : {old room : Pass} {rest : LineRest} {at : ℕ} {start : BlockSta
     (may : MayBeginBlock old rest at start) → HasRoom may.s room rest may.source b may.blocks
     → room.placing.builder.text ≡ old.placing.builder.text
 room_kept {old} {room} {rest} may has =
-    ap (λ (s : Source). s.text) has.may.source
-    ∙ sym (here_text may.s old rest may.turn may.source may.blocks may.here)
+    ap (λ (s : Source). s.text) has.may.source ∙ sym (here_text may.s old rest may.turn may.source may.blocks may.here)
 
 -- ---- text
 
 -- a line that is not blank has fewer bytes of white space than bytes
-filled_first : (bytes : List ℕ) (rest : SourceLine) → rest.left.bytes ≡ bytes → is_blank_rest rest ≡ false
-    → prefix_len is_space_or_tab bytes < length bytes
-filled_first bytes rest is filled =
-    elim (eqb_tells (prefix_len is_space_or_tab bytes) (length bytes)) [
-      | inl all ↦ absurd (true≢false (sym (is_blank rest.left.bytes
-          (subst (λ (bs : List ℕ). prefix_len is_space_or_tab bs ≡ length bs) (sym is) all.1)) ∙ filled))
-      | inr some ↦ let within = prefix_len-le-length is_space_or_tab bytes in omega (arith, within, some.1)
+filled_first : (rest : SourceLine) → is_blank_rest rest ≡ false
+    → prefix_len is_space_or_tab rest.left.bytes < length rest.left.bytes
+filled_first rest filled =
+    let within = prefix_len-le-length is_space_or_tab rest.left.bytes in
+    elim (eqb_tells (prefix_len is_space_or_tab rest.left.bytes) (length rest.left.bytes)) [
+      | inl all ↦ absurd (true≢false (sym (is_blank rest.left.bytes all.1) ∙ filled))
+      | inr some ↦ omega (arith, within, some.1)
     ]
 
 module _ (text : List ℕ) (line : Line) (rest : SourceLine) (start : ℕ) (at : IsContentAt text line rest start) where
   -- the first byte of content is in the line
   pub starts_before : start < line.stop
-  starts_before =
-      omega (arith, filled_first rest.left.bytes rest refl at.filled, at.here, at.stop)
+  starts_before = omega (arith, filled_first rest at.filled, at.here, at.stop)
 
   pub starts_after : line.start ≤ start
-  starts_after =
-      omega (arith, at.low, at.here)
+  starts_after = omega (arith, at.low, at.here)
 
   is_text_line : IsTextLine text (held_line line start) (text_line rest)
   is_text_line = record {
@@ -335,16 +210,14 @@ module _ (text : List ℕ) (line : Line) (rest : SourceLine) (start : ℕ) (at :
 
   first_is_content : is_space_or_tab (slice_index text start) ≡ false
   first_is_content =
-      let white = prefix_len is_space_or_tab rest.left.bytes in
-      let some = filled_first rest.left.bytes rest refl at.filled in
+      let white = prefix_len is_space_or_tab rest.left.bytes in let some = filled_first rest at.filled in
       let there = in_part text rest.left.bytes rest.left.scanned line.stop white (sym at.bytes) some in
       ap (λ n. is_space_or_tab (slice_index text n)) at.here
       ∙ (sym (ap is_space_or_tab there.byte) ∙ prefix_len_stops is_space_or_tab rest.left.bytes 0 some)
 
   module _ (from : IsLineFrom text line.start line) where
     pub ends_after : line.start < line.next
-    ends_after =
-        omega (arith, starts_before, starts_after, from.ends)
+    ends_after = omega (arith, starts_before, starts_after, from.ends)
 
     pub is_held_line : IsHeldLine text (held_line line start)
     is_held_line = record {
@@ -352,9 +225,9 @@ module _ (text : List ℕ) (line : Line) (rest : SourceLine) (start : ℕ) (at :
       some = starts_before;
       first = first_is_content;
       content = record {
-        low = let first = starts_before in omega (arith, first);
+        low = omega (arith, starts_before);
         high = from.content.high;
-        content = λ k low high. let after = starts_after in from.content.content k (omega (arith, low, after)) high;
+        content = λ k low high. from.content.content k (omega (arith, low, starts_after)) high;
         stops = from.content.stops;
       };
       ends = from.ends;
@@ -363,11 +236,8 @@ module _ (text : List ℕ) (line : Line) (rest : SourceLine) (start : ℕ) (at :
     -- it comes after the lines of a paragraph that end before the line
     pub comes_after : (lines : List HeldLine) → lines_end lines ≤ line.start
         → ComesAfter text lines (held_line line start) (text_line rest)
-    comes_after lines before = record {
-      is = is_text_line;
-      held = is_held_line;
-      after = let after = starts_after in omega (arith, before, after);
-    }
+    comes_after lines before =
+        record { is = is_text_line; held = is_held_line; after = omega (arith, before, starts_after) }
 
     -- or a paragraph begins with it
     pub begins_block : BeginsText text (held_line line start) (text_line rest) (text_block rest)
@@ -376,7 +246,7 @@ module _ (text : List ℕ) (line : Line) (rest : SourceLine) (start : ℕ) (at :
         record {
           is = is_text_line;
           inside = rw some (omega arith, (is_held_line, tt));
-          some = let after = ends_after in omega (arith, after);
+          some = omega (arith, ends_after);
           kind = refl;
           last = refl;
         }

@@ -1,70 +1,47 @@
 -- What a line makes of blocks of which some containers on the right edge are open: which of these it reaches, and
 -- what stands around what it makes of the others.
 use Rattle.std.proofs.Common.{not, ◌≡◌, ℕ, Bool, true, false, ◌&&◌, List, [], ◌∷◌, ◌++◌, Option, Some, None, map, refl}
-use Rattle.std.proofs.Common.{sym, ap, ◌∙◌, length, take, drop, append-nil}
-use Rattle.std.proofs.Math.Bool.{and-false}
+use Rattle.std.proofs.Common.{sym, ap, ◌∙◌, length, ◌≤◌, arith, length-append, append-nil}
+use Rattle.markdown_plain.proofs.Names.{and-false, and_parts, none-some, same_Some, option_or, Forest, nil, node}
+use Rattle.markdown_plain.proofs.Names.{followed_by, past_footnote, past_indent, past_quote, LineLeft, ListMarker}
+use Rattle.markdown_plain.proofs.Names.{Source, SourceLine, is_blank_rest, rest_inside, Block, Kind, container_with}
+use Rattle.markdown_plain.proofs.Names.{goes_on, is_nil, lazily, line_block, with_lazy, with_line, is_text, next_item}
+use Rattle.markdown_plain.proofs.Names.{AreContainers, AreNested, Frame, IsContainer, forgotten, innermost_is}
+use Rattle.markdown_plain.proofs.Names.{inside_container, is_list, rebuilt, touched, is_item, is_quote, Reached}
+use Rattle.markdown_plain.proofs.Names.{reached, closed_in, outer_within, ItemBody, BlockQuoteKind, OpenBlock, AreOpen}
+use Rattle.markdown_plain.proofs.Names.{IsBodyOf, begins, list_all, nat_tests}
 use Rattle.std.proofs.lemmas.Bool.{true≢false}
-use Rattle.std.proofs.lemmas.Option.{none-some, same_Some}
-use Rattle.std.specs.Prelude.{unwrap_or, if◌then◌else◌}
-use Rattle.std.specs.Option.{option_map, option_or}
-use Rattle.std.proofs.lemmas.List.{drop_at, map_push, take_at}
-use native.Mathlib.Numerals.{unary_clauses}
-use Rattle.markdown_base.specs.Forest.{Forest, nil, node}
-use Rattle.markdown_builder.specs.TreeLevels.{followed_by}
-use Rattle.markdown_scan.specs.ContainerParts.{past_footnote, past_indent, past_quote}
-use Rattle.markdown_scan.specs.LineStart.{LineLeft}
-use Rattle.markdown_lines.specs.declared.list_marker.ListMarker.{ListMarker}
-use Rattle.markdown_base.specs.Source.{Source}
-use Rattle.markdown_lines.specs.SourceLines.{SourceLine, is_blank_rest, rest_inside}
-use Rattle.markdown_block_rules.specs.BlockGrowth.{Block, Kind, block_with, container_with, goes_on, is_nil, lazily}
-use Rattle.markdown_block_rules.specs.BlockGrowth.{line_block, with_lazy, with_line, with_rest, is_text, next_item}
-use Rattle.markdown_plain.specs.Frames.{AreContainers, AreNested, Frame, IsContainer, forgotten, innermost_is}
-use Rattle.markdown_plain.specs.Frames.{inside_container, is_list, rebuilt, touched, is_item, is_quote, Reached}
-use Rattle.markdown_plain.specs.Frames.{reached, reached_here, reached_past}
+use Rattle.std.specs.Prelude.{if◌then◌else◌, nat_lt}
+use Rattle.std.specs.Option.{option_map}
+use Rattle.markdown_block_rules.specs.BlockGrowth.{block_with, with_rest}
+use Rattle.markdown_plain.specs.Frames.{reached_past, reached_in}
 use Rattle.markdown_base.specs.declared.index.CowIndex.{CowIndex}
-use Rattle.markdown_base.specs.declared.item.ItemBody.{ItemBody}
-use Rattle.markdown_base.specs.declared.tag.BlockQuoteKind.{BlockQuoteKind}
-use Rattle.markdown_builder.specs.declared.open_block.OpenBlock.{OpenBlock}
-use Rattle.markdown_plain.specs.Settled.{AreOpen, IsBodyOf}
-use Rattle.markdown_lines.specs.BlockBeginnings.{begins}
 use Rattle.markdown_block_rules.specs.BlockGrowth as was
 use Rattle.markdown_base.specs.declared.item.ItemBody.TheVariants as item
 use Rattle.markdown_plain.specs.ListLooseness as body
 use Rattle.markdown_plain.specs.OpenBlocks as block
 use Rattle.markdown_lines.specs.declared.block_start.Before.TheVariants as paragraph
+use Rattle.markdown_plain.proofs.LeafTreesLemmas.{by_test, innermost_of_opened}
 
 -- ---- frames
 
 -- open containers in others
-pub rebuilt_in : (outer inner : List Frame) (inside : Forest Block)
-    → rebuilt (outer ++ inner) inside ≡ rebuilt outer (rebuilt inner inside)
-rebuilt_in [] inner inside = refl
-rebuilt_in (f ∷ outer) inner inside = rw (rebuilt_in outer inner inside) refl
-
--- the innermost open container is closed
-pub rebuilt_more : (frames : List Frame) (f : Frame) (inside : Forest Block)
-    → rebuilt (frames ++ f ∷ []) inside ≡ rebuilt frames (forgotten f inside)
-rebuilt_more frames f inside = rebuilt_in frames (f ∷ []) inside
-
--- the innermost of some open containers is that of the inner ones
-pub innermost_inner : (test : Kind → Bool) (f g : Frame) (frames : List Frame)
-    → innermost_is test (f ∷ g ∷ frames) ≡ innermost_is test (g ∷ frames)
-innermost_inner test f g frames = simp unary_clauses refl
+pub rebuilt_in : (inner outer : List Frame) (inside : Forest Block)
+    → rebuilt (inner ++ outer) inside ≡ rebuilt outer (rebuilt inner inside)
+rebuilt_in [] outer inside = refl
+rebuilt_in (f ∷ inner) outer inside = rebuilt_in inner outer (forgotten f inside)
 
 -- open containers of which the innermost passes a test of its kind
 pub record Innermost (test : Kind → Bool) (frames : List Frame) : Type 0 where
   pub outer : List Frame
   pub last : Frame
-  pub are : frames ≡ outer ++ last ∷ []
+  pub are : frames ≡ last ∷ outer
   pub passes : test last.block.kind ≡ true
 
 pub innermost_apart : (test : Kind → Bool) (frames : List Frame) → innermost_is test frames ≡ true
     → Innermost test frames
 innermost_apart test [] passes = absurd (true≢false (sym passes))
-innermost_apart test (f ∷ []) passes = record { outer = []; last = f; are = refl; passes = passes }
-innermost_apart test (f ∷ g ∷ frames) passes =
-    let inner = innermost_apart test (g ∷ frames) (rw innermost_inner at passes) in
-    record { outer = f ∷ inner.outer; last = inner.last; are = rw inner.are refl; passes = inner.passes }
+innermost_apart test (f ∷ outer) passes = record { outer = outer; last = f; are = refl; passes = passes }
 
 -- the marker of a list
 pub record HasMarker (kind : Kind) : Type 0 where
@@ -75,18 +52,17 @@ pub marker_of_list : (kind : Kind) → is_list kind ≡ true → HasMarker kind
 marker_of_list (was.list_container marker) list = record { marker = marker; is = refl }
 marker_of_list other list = absurd (true≢false (sym list))
 
-pub outer_containers : (outer inner : List Frame) → AreContainers (outer ++ inner) → AreContainers outer
-outer_containers [] inner are = tt
-outer_containers (f ∷ outer) inner are = (are.0, outer_containers outer inner are.1)
+pub inner_containers : (inner outer : List Frame) → AreContainers (inner ++ outer) → AreContainers inner
+inner_containers [] outer are = tt
+inner_containers (f ∷ inner) outer are = (are.0, inner_containers inner outer are.1)
 
-pub inner_containers : (outer inner : List Frame) → AreContainers (outer ++ inner) → AreContainers inner
-inner_containers [] inner are = are
-inner_containers (f ∷ outer) inner are = inner_containers outer inner are.1
+pub outer_containers : (inner outer : List Frame) → AreContainers (inner ++ outer) → AreContainers outer
+outer_containers [] outer are = are
+outer_containers (f ∷ inner) outer are = outer_containers inner outer are.1
 
-pub outer_nested : (outer inner : List Frame) → AreNested (outer ++ inner) → AreNested outer
-outer_nested [] inner nested = tt
-outer_nested (f ∷ []) inner nested = tt
-outer_nested (f ∷ g ∷ outer) inner nested = (nested.0, outer_nested (g ∷ outer) inner nested.1)
+pub outer_nested : (inner outer : List Frame) → AreNested (inner ++ outer) → AreNested outer
+outer_nested [] outer nested = nested
+outer_nested (f ∷ inner) outer nested = outer_nested inner outer nested.1
 
 -- ---- the last block
 
@@ -270,66 +246,7 @@ module _ {A : Type 0} (part : SourceLine → A) (same : (left : LineLeft) (l : S
       part_kept l rest (is_blank_rest l && empty) (past_indent indent l.left) takes
   rest_kept s empty l rest other takes = ap part (sym (same_Some l rest takes))
 
--- ---- the containers that go on
-
--- open containers all go on in a line, of which this is left in the innermost, which holds these blocks
-abbrev pub AllGoOn : Source → List Frame → Forest Block → SourceLine → SourceLine → Type 0
-AllGoOn s [] inside l rest = l ≡ rest
-AllGoOn s (f ∷ frames) inside l rest =
-    (m : SourceLine) × (inside_container s l (is_nil (rebuilt frames inside)) f.block.kind ≡ Some m)
-    × AllGoOn s frames inside m rest
-
--- containers are touched alike by what is left of a line
-pub touched_alike : (l m : SourceLine) (frames : List Frame) → m.next ≡ l.next
-    → map (touched m) frames ≡ map (touched l) frames
-touched_alike l m frames next = rw next refl
-
-goes_inside : (s : Source) (inside : Forest Block) (l rest : SourceLine) (f : Frame) (frames : List Frame)
-    → AreContainers (f ∷ frames) → AreNested (f ∷ frames) → innermost_is is_list (f ∷ frames) ≡ false
-    → AllGoOn s (f ∷ frames) inside l rest → goes_on s (rebuilt (f ∷ frames) inside) l
-    ≡ Some (rebuilt (map (touched l) (f ∷ frames)) (with_line s inside rest))
-goes_inside s inside l rest f [] are nested plain (m, takes, same) =
-    rw (container_goes_on s f inside l are.0, takes_rest s inside l m f.block.kind are.0 plain takes, same) refl
-goes_inside s inside l rest f (g ∷ frames) are nested plain (m, takes, more) =
-    rw (container_goes_on s f (rebuilt (g ∷ frames) inside) l are.0) (ap (option_map (forgotten (touched l f)))
-    (decided (is_list f.block.kind) refl
-    (λ n all. goes_inside s inside n rest g frames are.1 nested.1 (rw innermost_inner at plain) all)))
-  where
-    below : Forest Block
-    below = rebuilt (g ∷ frames) inside
-
-    grown : SourceLine → Forest Block
-    grown n = rebuilt (map (touched n) (g ∷ frames)) (with_line s inside rest)
-
-    decided : (list : Bool) → is_list f.block.kind ≡ list
-        → ((n : SourceLine) → AllGoOn s (g ∷ frames) inside n rest → goes_on s below n ≡ Some (grown n))
-        → container_with s l below (goes_on s below) f.block.kind ≡ Some (grown l)
-    decided true list inner =
-        let same = list_takes s (is_nil below) l m f.block.kind list takes in
-        list_grows s below (grown l) l f.block.kind list (inner l (rw same more))
-    decided false list inner =
-        takes_rest s below l m f.block.kind are.0 list takes
-        ∙ (ap (λ o. Some (unwrap_or o (followed_by below (line_block s m)))) (inner m more)
-        ∙ ap (λ (fs : List Frame). Some (rebuilt fs (with_line s inside rest))) (touched_alike l m (g ∷ frames)
-        (rest_kept (λ (l : SourceLine). l.next) (λ left l. refl) s (is_nil below) l m f.block.kind takes)))
-
--- where the innermost is no list, what is in it goes on with what is left of the line
-pub line_inside : (s : Source) (inside : Forest Block) (l rest : SourceLine) (frames : List Frame)
-    → AreContainers frames → AreNested frames → innermost_is is_list frames ≡ false → AllGoOn s frames inside l rest
-    → with_line s (rebuilt frames inside) l ≡ rebuilt (map (touched l) frames) (with_line s inside rest)
-line_inside s inside l rest [] are nested plain same = rw same refl
-line_inside s inside l rest (f ∷ frames) are nested plain all =
-    rw (goes_inside s inside l rest f frames are nested plain all) refl
-
--- ---- the innermost container
-
--- a container of one kind is of no other
-excludes : (one other : Kind → Bool) → ((kind : Kind) → one kind ≡ true → other kind ≡ false) → (frames : List Frame)
-    → innermost_is one frames ≡ true → innermost_is other frames ≡ false
-excludes one other apart [] is = refl
-excludes one other apart (f ∷ []) is = apart f.block.kind is
-excludes one other apart (f ∷ g ∷ frames) is =
-    rw (innermost_inner other f g frames) (excludes one other apart (g ∷ frames) (rw innermost_inner at is))
+-- ---- containers of one kind
 
 pub item_no_list : (kind : Kind) → is_item kind ≡ true → is_list kind ≡ false
 item_no_list (was.list_container marker) is = absurd (true≢false (sym is))
@@ -339,23 +256,22 @@ pub list_no_item : (kind : Kind) → is_list kind ≡ true → is_item kind ≡ 
 list_no_item (was.item_container indent) is = absurd (true≢false (sym is))
 list_no_item other is = refl
 
-item_no_quote : (kind : Kind) → is_item kind ≡ true → is_quote kind ≡ false
+pub item_no_quote : (kind : Kind) → is_item kind ≡ true → is_quote kind ≡ false
 item_no_quote (was.item_container indent) is = refl
 item_no_quote other is = absurd (true≢false (sym is))
 
-list_no_quote : (kind : Kind) → is_list kind ≡ true → is_quote kind ≡ false
+pub list_no_quote : (kind : Kind) → is_list kind ≡ true → is_quote kind ≡ false
 list_no_quote (was.list_container marker) is = refl
 list_no_quote other is = absurd (true≢false (sym is))
 
-pub inner_item_no_quote : (frames : List Frame) → innermost_is is_item frames ≡ true
-    → innermost_is is_quote frames ≡ false
-inner_item_no_quote frames is = excludes is_item is_quote item_no_quote frames is
-
-pub inner_list_no_quote : (frames : List Frame) → innermost_is is_list frames ≡ true
-    → innermost_is is_quote frames ≡ false
-inner_list_no_quote frames is = excludes is_list is_quote list_no_quote frames is
-
 -- ---- the open blocks
+
+-- there are as many as containers
+pub as_many_open : (texts : List (List ℕ)) (blocks : List OpenBlock) (frames : List Frame) → AreOpen texts blocks frames
+    → length blocks ≡ length frames
+as_many_open texts blocks [] none = rw none refl
+as_many_open texts blocks (f ∷ outer) (block, others, are, is, around) =
+    omega (arith, ap length are, length-append others (block ∷ []), as_many_open texts others outer around)
 
 -- a test of bodies is one of kinds
 abbrev pub TestsAlike : (ItemBody → Bool) → (Kind → Bool) → Type 0
@@ -365,15 +281,9 @@ TestsAlike test of = (texts : List (List ℕ)) (kind : Kind) (b : ItemBody) → 
 pub inner_alike : (test : ItemBody → Bool) (of : Kind → Bool) → TestsAlike test of → (texts : List (List ℕ))
     (blocks : List OpenBlock) (frames : List Frame) → AreOpen texts blocks frames
     → block.innermost_is test blocks ≡ innermost_is of frames
-inner_alike test of alike texts [] [] these = refl
-inner_alike test of alike texts [] (f ∷ frames) these = absurd these
-inner_alike test of alike texts (b ∷ blocks) [] these = absurd these
-inner_alike test of alike texts (b ∷ []) (f ∷ []) these = alike texts f.block.kind b.body these.0.body
-inner_alike test of alike texts (b ∷ []) (f ∷ g ∷ frames) these = absurd these.1
-inner_alike test of alike texts (b ∷ c ∷ blocks) (f ∷ []) these = absurd these.1
-inner_alike test of alike texts (b ∷ c ∷ blocks) (f ∷ g ∷ frames) these =
-    let h = inner_alike test of alike texts (c ∷ blocks) (g ∷ frames) these.1 in
-    simp unary_clauses (simp unary_clauses at h)
+inner_alike test of alike texts blocks [] none = rw none refl
+inner_alike test of alike texts blocks (f ∷ outer) (b, others, are, is, around) =
+    rw (are, innermost_of_opened) (alike texts f.block.kind b.body is.body)
 
 -- it is one where it is so for the body of each container
 pub tests_alike : (test : ItemBody → Bool) (of : Kind → Bool) → test (item.BlockQuote None) ≡ of was.quote_container
@@ -406,74 +316,91 @@ item_of_open texts blocks frames these =
     (tests_alike body.is_item is_item refl (λ kind. refl) (λ m. refl) (λ indent. refl) (λ ix label. refl)) texts blocks
     frames these
 
--- the last of some open containers is the innermost
-pub inner_last : (test : Kind → Bool) (frames : List Frame) (f : Frame)
-    → innermost_is test (frames ++ f ∷ []) ≡ test f.block.kind
-inner_last test [] f = refl
-inner_last test (g ∷ []) f = refl
-inner_last test (g ∷ h ∷ frames) f = innermost_inner test g h (frames ++ f ∷ []) ∙ inner_last test (h ∷ frames) f
-
--- a list is not directly in a list
-pub no_list_around : (frames : List Frame) (f : Frame) → AreNested (frames ++ f ∷ []) → is_list f.block.kind ≡ true
-    → innermost_is is_list frames ≡ false
-no_list_around [] f nested list = refl
-no_list_around (g ∷ []) f nested list = nested.0 ∙ list_no_item f.block.kind list
-no_list_around (g ∷ h ∷ frames) f nested list = rw innermost_inner (no_list_around (h ∷ frames) f nested.1 list)
-
 -- ---- how far a line reaches
 
--- a test passes or fails
-pub by_test : {P : Type 0} (b : Bool) → (b ≡ true → P) → (b ≡ false → P) → P
-by_test true first second = first refl
-by_test false first second = second refl
-
--- ---- how far a line reaches
-
--- what is reached with a container, by whether that takes part of the line
-pub on_reached : (P : Reached → Type 0) (s : Source) (f : Frame) (frames : List Frame) (inside : Forest Block)
-    (l : SourceLine)
-    → (inside_container s l (is_nil (rebuilt frames inside)) f.block.kind ≡ None → P (reached_here (f ∷ frames) l))
-    → ((m : SourceLine) → inside_container s l (is_nil (rebuilt frames inside)) f.block.kind ≡ Some m
-    → P (reached_past f frames l (reached s frames inside) (Some m))) → P (reached s (f ∷ frames) inside l)
-unfolding reached
-on_reached P s f frames inside l none some =
-    by_rest (inside_container s l (is_nil (rebuilt frames inside)) f.block.kind) none some
+-- what is reached with one container more: where all others go on, it does too, or it is where the line stops
+module _ (P : Reached → Type 0) (s : Source) (f : Frame) (outer : List Frame) (inside : Forest Block) (l : SourceLine)
   where
-    by_rest : (o : Option SourceLine) → (o ≡ None → P (reached_here (f ∷ frames) l))
-        → ((m : SourceLine) → o ≡ Some m → P (reached_past f frames l (reached s frames inside) (Some m)))
-        → P (reached_past f frames l (reached s frames inside) o)
-    by_rest None none some = none refl
-    by_rest (Some m) none some = some m refl
+    pub on_reached :
+        ((rest : SourceLine) → (reached s outer (forgotten f inside) l).inner ≡ []
+        → inside_container s (reached s outer (forgotten f inside) l).rest (is_nil inside) f.block.kind ≡ Some rest
+        → P (record { outer = f ∷ (reached s outer (forgotten f inside) l).outer; inner = []; rest = rest }))
+        → ((reached s outer (forgotten f inside) l).inner ≡ []
+        → inside_container s (reached s outer (forgotten f inside) l).rest (is_nil inside) f.block.kind ≡ None
+        → P (record (reached s outer (forgotten f inside) l) { inner = f ∷ [] }))
+        → ((g : Frame) (inner : List Frame) → (reached s outer (forgotten f inside) l).inner ≡ g ∷ inner
+        → P (record (reached s outer (forgotten f inside) l) { inner = f ∷ g ∷ inner }))
+        → P (reached s (f ∷ outer) inside l)
+    unfolding reached
+    on_reached goes stops further = by_inner r.inner refl
+      where
+        r : Reached
+        r = reached s outer (forgotten f inside) l
+
+        by_rest : r.inner ≡ [] → (rest : Option SourceLine)
+            → inside_container s r.rest (is_nil inside) f.block.kind ≡ rest → P (reached_past f r rest)
+        by_rest all None takes = stops all takes
+        by_rest all (Some rest) takes = goes rest all takes
+
+        by_inner : (inner : List Frame) → r.inner ≡ inner → P (reached_in s f (is_nil inside) r inner)
+        by_inner [] all = by_rest all (inside_container s r.rest (is_nil inside) f.block.kind) refl
+        by_inner (g ∷ inner) some = further g inner some
 
 -- some open containers go on, and the others do not
 pub reached_parts : (s : Source) (frames : List Frame) (inside : Forest Block) (l : SourceLine)
-    → (reached s frames inside l).outer ++ (reached s frames inside l).inner ≡ frames
+    → (reached s frames inside l).inner ++ (reached s frames inside l).outer ≡ frames
 unfolding reached
 reached_parts s [] inside l = refl
-reached_parts s (f ∷ frames) inside l =
-    on_reached (λ r. r.outer ++ r.inner ≡ f ∷ frames) s f frames inside l (λ e. refl)
-    (λ m e. rw (reached_parts s frames inside m) refl)
+reached_parts s (f ∷ outer) inside l =
+    let parts = reached_parts s outer (forgotten f inside) l in
+    on_reached (λ r. r.inner ++ r.outer ≡ f ∷ outer) s f outer inside l (λ rest all takes. cc (rw all at parts))
+    (λ all takes. cc (rw all at parts)) (λ g inner some. cc (rw some at parts))
 
 -- those are the outermost, by their number
+pub all_within : (frames : List Frame) (depth : ℕ) → length frames ≤ depth
+    → (outer_within depth frames ≡ frames) × ((inside : Forest Block) → closed_in depth frames inside ≡ inside)
+all_within [] depth few = (refl, λ inside. refl)
+all_within (f ∷ outer) depth few =
+    let less : nat_lt (length outer) depth ≡ true = grind (arith, nat_tests, few) in
+    (rw less refl, λ inside. rw less refl)
+
+pub within_parts : (inner outer : List Frame) (depth : ℕ) → depth ≡ length outer
+    → (outer_within depth (inner ++ outer) ≡ outer)
+    × ((inside : Forest Block) → closed_in depth (inner ++ outer) inside ≡ rebuilt inner inside)
+within_parts [] outer depth is = all_within outer depth (omega (arith, is))
+within_parts (f ∷ inner) outer depth is =
+    let more : nat_lt (length (inner ++ outer)) depth ≡ false =
+    grind (arith, nat_tests, is, length-append inner outer) in
+    let others = within_parts inner outer depth is in
+    (rw more others.0, λ inside. rw more (others.1 (forgotten f inside)))
+
+pub none_within : (frames : List Frame)
+    → (outer_within 0 frames ≡ []) × ((inside : Forest Block) → closed_in 0 frames inside ≡ rebuilt frames inside)
+none_within frames = rw append-nil at (within_parts frames [] 0 refl)
+
 pub outer_taken : (s : Source) (frames : List Frame) (inside : Forest Block) (l : SourceLine)
-    → take (length (reached s frames inside l).outer) frames ≡ (reached s frames inside l).outer
+    → outer_within (length (reached s frames inside l).outer) frames ≡ (reached s frames inside l).outer
 outer_taken s frames inside l =
-    let r = reached s frames inside l in
-    ap (take (length r.outer)) (sym (reached_parts s frames inside l)) ∙ take_at r.outer r.inner (length r.outer) refl
+    let r = reached s frames inside l in rw reached_parts at (within_parts r.inner r.outer (length r.outer) refl).0
 
 pub inner_left : (s : Source) (frames : List Frame) (inside : Forest Block) (l : SourceLine)
-    → drop (length (reached s frames inside l).outer) frames ≡ (reached s frames inside l).inner
+    → closed_in (length (reached s frames inside l).outer) frames inside
+    ≡ rebuilt (reached s frames inside l).inner inside
 inner_left s frames inside l =
     let r = reached s frames inside l in
-    ap (drop (length r.outer)) (sym (reached_parts s frames inside l)) ∙ drop_at r.outer r.inner (length r.outer) refl
+    rw reached_parts at ((within_parts r.inner r.outer (length r.outer) refl).1 inside)
+
+-- where all go on, those are the frames
+pub all_outer : (s : Source) (frames : List Frame) (inside : Forest Block) (l : SourceLine)
+    → (reached s frames inside l).inner ≡ [] → (reached s frames inside l).outer ≡ frames
+all_outer s frames inside l none = rw none at (reached_parts s frames inside l)
 
 -- they hold the same blocks
 pub reached_same : (s : Source) (frames : List Frame) (inside : Forest Block) (l : SourceLine)
     → rebuilt (reached s frames inside l).outer (rebuilt (reached s frames inside l).inner inside)
     ≡ rebuilt frames inside
 reached_same s frames inside l =
-    sym (rebuilt_in (reached s frames inside l).outer (reached s frames inside l).inner inside)
-    ∙ ap (λ (fs : List Frame). rebuilt fs inside) (reached_parts s frames inside l)
+    let r = reached s frames inside l in sym (rebuilt_in r.inner r.outer inside) ∙ rw reached_parts refl
 
 -- what is left of the line has the same parts but what is left
 module _ {A : Type 0} (part : SourceLine → A) (same : (left : LineLeft) (l : SourceLine)
@@ -482,9 +409,11 @@ module _ {A : Type 0} (part : SourceLine → A) (same : (left : LineLeft) (l : S
       → part (reached s frames inside l).rest ≡ part l
   unfolding reached
   reached_kept s [] inside l = refl
-  reached_kept s (f ∷ frames) inside l = on_reached (λ r. part r.rest ≡ part l) s f frames inside l (λ e. refl)
-      (λ m takes. reached_kept s frames inside m
-      ∙ rest_kept part same s (is_nil (rebuilt frames inside)) l m f.block.kind takes)
+  reached_kept s (f ∷ outer) inside l =
+      let others = reached_kept s outer (forgotten f inside) l in
+      on_reached (λ r. part r.rest ≡ part l) s f outer inside l
+      (λ rest all takes. rest_kept part same s (is_nil inside) _ rest f.block.kind takes ∙ others)
+      (λ all takes. others) (λ g inner some. others)
 
 -- it ends where the line does
 pub reached_next : (s : Source) (frames : List Frame) (inside : Forest Block) (l : SourceLine)
@@ -496,47 +425,60 @@ pub reached_indent : (s : Source) (frames : List Frame) (inside : Forest Block) 
     → (reached s frames inside l).rest.indent ≡ l.indent
 reached_indent s frames inside l = reached_kept (λ (l : SourceLine). l.indent) (λ left l. refl) s frames inside l
 
--- the outer ones go on
-all_reached : (s : Source) (frames : List Frame) (inside : Forest Block) (l : SourceLine)
-    → AllGoOn s (reached s frames inside l).outer (rebuilt (reached s frames inside l).inner inside) l
-    (reached s frames inside l).rest
+-- where only lists go on, all of the line is left
+pub lists_leave : (s : Source) (frames : List Frame) (inside : Forest Block) (l : SourceLine)
+    → list_all (λ (f : Frame). is_list f.block.kind) (reached s frames inside l).outer ≡ true
+    → (reached s frames inside l).rest ≡ l
 unfolding reached
-all_reached s [] inside l = refl
-all_reached s (f ∷ frames) inside l =
-    on_reached (λ r. AllGoOn s r.outer (rebuilt r.inner inside) l r.rest) s f frames inside l (λ e. refl)
-    (λ m takes. (m, rw (reached_same s frames inside m) takes, all_reached s frames inside m))
-
--- the outermost of some open containers takes nothing of a line
-abbrev Stops : Source → Forest Block → SourceLine → List Frame → Type 0
-Stops s inside l [] = Unit
-Stops s inside l (f ∷ frames) = inside_container s l (is_nil (rebuilt frames inside)) f.block.kind ≡ None
-
--- the outermost of the inner ones does not go on
-inner_stops : (s : Source) (frames : List Frame) (inside : Forest Block) (l : SourceLine)
-    → Stops s inside (reached s frames inside l).rest (reached s frames inside l).inner
-unfolding reached
-inner_stops s [] inside l = tt
-inner_stops s (f ∷ frames) inside l =
-    on_reached (λ r. Stops s inside r.rest r.inner) s f frames inside l (λ e. e) (λ m e. inner_stops s frames inside m)
+lists_leave s [] inside l = λ lists. refl
+lists_leave s (f ∷ outer) inside l =
+    let others = lists_leave s outer (forgotten f inside) l in
+    on_reached (λ r. list_all (λ (g : Frame). is_list g.block.kind) r.outer ≡ true → r.rest ≡ l) s f outer inside l
+    (λ rest all takes lists.
+    let both = and_parts (is_list f.block.kind) _ lists in
+    sym (list_takes s (is_nil inside) _ rest f.block.kind both.0 takes) ∙ others both.1) (λ all takes. others)
+    (λ g inner some. others)
 
 -- ---- what the line makes of the blocks
 
--- blocks whose last one is a container that takes nothing of a line
-stopped : (s : Source) (inside : Forest Block) (l : SourceLine) (f : Frame) (frames : List Frame)
-    → IsContainer f.block.kind → Stops s inside l (f ∷ frames)
-    → goes_on s (rebuilt (f ∷ frames) inside) l ≡ lazily s l (rebuilt (f ∷ frames) inside)
-stopped s inside l f frames is stops = container_goes_on s f (rebuilt frames inside) l is
-    ∙ rw (takes_nothing s (rebuilt frames inside) l f.block.kind is stops)
-    (by_test (not (is_blank_rest l) && is_text (begins s paragraph.Lazy l))
-    (λ e. rw e (sym (container_goes_lazily f (rebuilt frames inside) l is))) (λ e. rw e refl))
+-- containers are touched alike by what is left of a line
+pub touched_alike : (l m : SourceLine) (frames : List Frame) → m.next ≡ l.next
+    → map (touched m) frames ≡ map (touched l) frames
+touched_alike l m frames next = rw next refl
 
--- all of some open containers go on, of which the innermost is a list: so do the others, with the list closed
-around_all : (s : Source) (inside : Forest Block) (l rest : SourceLine) (outer : List Frame) (f : Frame)
-    → is_list f.block.kind ≡ true → AllGoOn s (outer ++ f ∷ []) inside l rest
-    → AllGoOn s outer (forgotten f inside) l rest
-around_all s inside l rest [] f list (m, takes, same) = list_takes s (is_nil inside) l m f.block.kind list takes ∙ same
-around_all s inside l rest (g ∷ outer) f list (m, takes, more) =
-    (m, rw (← rebuilt_more outer f inside) takes, around_all s inside m rest outer f list more)
+-- a container that takes nothing of a line goes on lazily at most
+stopped : (s : Source) (inside : Forest Block) (l : SourceLine) (f : Frame) → IsContainer f.block.kind
+    → inside_container s l (is_nil inside) f.block.kind ≡ None
+    → goes_on s (forgotten f inside) l ≡ lazily s l (forgotten f inside)
+stopped s inside l f is stops = container_goes_on s f inside l is
+    ∙ rw (takes_nothing s inside l f.block.kind is stops)
+    (by_test (not (is_blank_rest l) && is_text (begins s paragraph.Lazy l))
+    (λ e. rw e (sym (container_goes_lazily f inside l is))) (λ e. rw e refl))
+
+-- what is in the containers that the line does not reach goes on lazily at most
+pub inner_goes_lazily : (s : Source) (frames : List Frame) (inside : Forest Block) (l : SourceLine) (f : Frame)
+    (others : List Frame) → AreContainers frames → (reached s frames inside l).inner ≡ f ∷ others
+    → goes_on s (rebuilt (reached s frames inside l).inner inside) (reached s frames inside l).rest
+    ≡ lazily s (reached s frames inside l).rest (rebuilt (reached s frames inside l).inner inside)
+unfolding reached
+inner_goes_lazily s [] inside l f others are more = cc (more)
+inner_goes_lazily s (h ∷ outer) inside l f others are more =
+    on_reached (λ r. r.inner ≡ f ∷ others
+    → goes_on s (rebuilt r.inner inside) r.rest ≡ lazily s r.rest (rebuilt r.inner inside)) s h outer inside l
+    (λ rest all takes none. cc (none)) (λ all takes some. stopped s inside _ h are.0 takes)
+    (λ g inner further some. rw further at (inner_goes_lazily s outer (forgotten h inside) l g inner are.1 further))
+    more
+
+-- a container goes on as what is in it does
+container_grows : (s : Source) (f : Frame) (inside grown : Forest Block) (l rest : SourceLine)
+    → IsContainer f.block.kind
+    → inside_container s l (is_nil inside) f.block.kind ≡ Some rest → goes_on s inside rest ≡ Some grown
+    → goes_on s (forgotten f inside) l ≡ Some (forgotten (touched l f) grown)
+container_grows s f inside grown l rest is takes goes = container_goes_on s f inside l is
+    ∙ by_test (is_list f.block.kind) (λ list.
+    let same = list_takes s (is_nil inside) l rest f.block.kind list takes in
+    rw (list_grows s inside grown l f.block.kind list (rw same goes)) refl)
+    (λ plain. rw (takes_rest s inside l rest f.block.kind is plain takes, goes) refl)
 
 -- a list goes on as its last item does, or with another item
 list_goes_on : (s : Source) (f : Frame) (below : Forest Block) (l : SourceLine) (marker : ListMarker)
@@ -544,115 +486,107 @@ list_goes_on : (s : Source) (f : Frame) (below : Forest Block) (l : SourceLine) 
     (option_or (goes_on s below l) (option_map (followed_by below) (next_item s l marker)))
 list_goes_on s f below l marker is = container_goes_on s f below l (rw is tt) ∙ rw is refl
 
--- an open container around others
-touched_around : (l m : SourceLine) (outer : List Frame) (f : Frame) (inside : Forest Block) → m.next ≡ l.next
-    → rebuilt (map (touched l) outer) (forgotten (touched m f) inside)
-    ≡ rebuilt (map (touched l) (outer ++ f ∷ [])) inside
-touched_around l m outer f inside next =
-    rw (next, map_push (touched l) outer f, rebuilt_more (map (touched l) outer) (touched l f) inside) refl
+-- ---- what a line makes of blocks with these open containers
 
--- what is in the first container that the line does not reach goes on lazily at most
-pub inner_goes_lazily : (s : Source) (frames : List Frame) (inside : Forest Block) (l : SourceLine) (f : Frame)
-    (others : List Frame) → AreContainers frames → (reached s frames inside l).inner ≡ f ∷ others
-    → goes_on s (rebuilt (reached s frames inside l).inner inside) (reached s frames inside l).rest
-    ≡ lazily s (reached s frames inside l).rest (rebuilt (reached s frames inside l).inner inside)
-inner_goes_lazily s frames inside l f others are is =
-    let r = reached s frames inside l in
-    let inner = inner_containers r.outer r.inner (rw (reached_parts s frames inside l) are) in
-    let stops = inner_stops s frames inside l in
-    rw is (stopped s inside r.rest f others (rw is at inner).0 (rw is at stops))
+-- what is in the innermost container that it reaches goes on
+pub last_goes_on : (s : Source) (frames : List Frame) (inside : Forest Block) (l : SourceLine) → AreContainers frames
+    → AreNested frames → (grown : Forest Block)
+    → goes_on s (rebuilt (reached s frames inside l).inner inside) (reached s frames inside l).rest ≡ Some grown
+    → with_line s (rebuilt frames inside) l ≡ rebuilt (map (touched l) (reached s frames inside l).outer) grown
+unfolding reached
+last_goes_on s [] inside l are nested grown = λ goes. rw goes refl
+last_goes_on s (f ∷ outer) inside l are nested grown =
+    let others = last_goes_on s outer (forgotten f inside) l are.1 nested.1 in
+    on_reached (λ r. goes_on s (rebuilt r.inner inside) r.rest ≡ Some grown
+    → with_line s (rebuilt (f ∷ outer) inside) l ≡ rebuilt (map (touched l) r.outer) grown) s f outer inside l
+    (λ rest all takes goes. rw all at (others (forgotten (touched l f) grown))
+    (container_grows s f inside grown _ _ are.0 takes goes ∙ rw reached_next refl))
+    (λ all takes. rw all at (others grown))
+    (λ g inner some. rw some at (others grown))
 
--- what a line makes of blocks with these open containers
+-- that container is no list
+outer_go_on : (s : Source) (frames : List Frame) (inside : Forest Block) (l : SourceLine) → AreContainers frames
+    → AreNested frames → innermost_is is_list (reached s frames inside l).outer ≡ false
+    → with_line s (rebuilt frames inside) l ≡ rebuilt (map (touched l) (reached s frames inside l).outer)
+    (with_line s (rebuilt (reached s frames inside l).inner inside) (reached s frames inside l).rest)
+unfolding reached
+outer_go_on s [] inside l are nested = λ plain. refl
+outer_go_on s (f ∷ outer) inside l are nested =
+    let others = outer_go_on s outer (forgotten f inside) l are.1 nested.1 in
+    on_reached (λ r. innermost_is is_list r.outer ≡ false → with_line s (rebuilt (f ∷ outer) inside) l
+    ≡ rebuilt (map (touched l) r.outer) (with_line s (rebuilt r.inner inside) r.rest)) s f outer inside l
+    (λ rest all takes plain.
+    let m = (reached s outer (forgotten f inside) l).rest in
+    let goes : goes_on s (forgotten f inside) m ≡ Some (forgotten (touched m f) (with_line s inside rest)) =
+    container_goes_on s f inside m are.0 ∙ rw (takes_rest s inside m rest f.block.kind are.0 plain takes) refl in
+    rw all at (last_goes_on s outer (forgotten f inside) l are.1 nested.1
+    (forgotten (touched l f) (with_line s inside rest)))
+    (goes ∙ rw reached_next refl)) (λ all takes. rw all at others) (λ g inner some. rw some at others)
+
+-- it is a list in which nothing goes on, so that it goes on with another item, or ends
+abbrev ListGoesOn : Source → List Frame → Frame → ListMarker → Forest Block → Forest Block → SourceLine → Reached
+    → Type 0
+ListGoesOn s outer f marker inside whole l r =
+    r.outer ≡ f ∷ outer → goes_on s (rebuilt r.inner inside) r.rest ≡ None
+    → ((new : Forest Block) → next_item s r.rest marker ≡ Some new → with_line s whole l
+    ≡ rebuilt (map (touched l) (f ∷ outer)) (followed_by (rebuilt r.inner inside) new))
+    × (next_item s r.rest marker ≡ None → with_line s whole l ≡ rebuilt (map (touched l) outer)
+    (followed_by (forgotten f (rebuilt r.inner inside)) (line_block s r.rest)))
+
+list_reached : (s : Source) (frames : List Frame) (inside : Forest Block) (l : SourceLine) → AreContainers frames
+    → AreNested frames → (outer : List Frame) (f : Frame) (marker : ListMarker)
+    → f.block.kind ≡ was.list_container marker
+    → ListGoesOn s outer f marker inside (rebuilt frames inside) l (reached s frames inside l)
+unfolding reached
+list_reached s [] inside l are nested outer f marker list = λ ends. cc (ends)
+list_reached s (g ∷ around) inside l are nested outer f marker list =
+    let others = list_reached s around (forgotten g inside) l are.1 nested.1 outer f marker list in
+    let r = reached s around (forgotten g inside) l in
+    on_reached (ListGoesOn s outer f marker inside (rebuilt (g ∷ around) inside) l) s g around inside l
+    (λ rest all takes ends none.
+    let first : g ≡ f = cc (ends) in let same : r.outer ≡ outer = cc (ends) in
+    let is : g.block.kind ≡ was.list_container marker = rw first list in
+    let left = list_takes s (is_nil inside) r.rest rest g.block.kind (ap is_list is) takes in
+    let stops : goes_on s inside r.rest ≡ None = rw left none in
+    let plain : innermost_is is_list r.outer ≡ false =
+    rw (all_outer s around (forgotten g inside) l all) (nested.0 ∙ list_no_item g.block.kind (ap is_list is)) in
+    let goes = list_goes_on s g inside r.rest marker is in
+    rw (← first, ← same, ← left) (
+      λ new next. rw all at (last_goes_on s around (forgotten g inside) l are.1 nested.1
+          (forgotten (touched l g) (followed_by inside new))) (goes ∙ rw (stops, next, reached_next) refl),
+      λ next.
+          let ends_so : goes_on s (forgotten g inside) r.rest ≡ None = goes ∙ rw (stops, next) refl in
+          rw all at (outer_go_on s around (forgotten g inside) l are.1 nested.1 plain) ∙ rw ends_so refl,
+    )) (λ all takes. rw all at others) (λ h inner some. rw some at others)
+
 module _ (s : Source) (frames : List Frame) (inside : Forest Block) (l : SourceLine) (are : AreContainers frames)
     (nested : AreNested frames) where
-  -- that of what is in the innermost container that it reaches, where that is no list
-  outer_go_on : innermost_is is_list (reached s frames inside l).outer ≡ false → with_line s (rebuilt frames inside) l
-      ≡ rebuilt (map (touched l) (reached s frames inside l).outer)
-      (with_line s (rebuilt (reached s frames inside l).inner inside) (reached s frames inside l).rest)
-  outer_go_on plain =
-      let r = reached s frames inside l in
-      let parts = reached_parts s frames inside l in
-      rw (← reached_same s frames inside l) (line_inside s (rebuilt r.inner inside) l r.rest r.outer
-      (outer_containers r.outer r.inner (rw parts are)) (outer_nested r.outer r.inner (rw parts nested)) plain
-      (all_reached s frames inside l))
-
-  -- it reaches all of them
-  pub all_go_on : (reached s frames inside l).inner ≡ [] → innermost_is is_list frames ≡ false
-      → with_line s (rebuilt frames inside) l
-      ≡ rebuilt (map (touched l) frames) (with_line s inside (reached s frames inside l).rest)
-  all_go_on none plain =
-      let r = reached s frames inside l in
-      let parts = reached_parts s frames inside l in
-      let all : r.outer ≡ frames = sym (append-nil r.outer) ∙ (rw none at parts) in
-      outer_go_on (rw all plain) ∙ rw (all, none) refl
-
-  -- that of a list, which is the innermost container that it reaches
-  module _ (outer : List Frame) (f : Frame) (marker : ListMarker)
-      (ends : (reached s frames inside l).outer ≡ outer ++ f ∷ []) (list : f.block.kind ≡ was.list_container marker)
-    where
-      in_list : (grown : Option (Forest Block))
-          → option_or (goes_on s (rebuilt (reached s frames inside l).inner inside) (reached s frames inside l).rest)
-          (option_map (followed_by (rebuilt (reached s frames inside l).inner inside))
-          (next_item s (reached s frames inside l).rest marker)) ≡ grown → with_line s (rebuilt frames inside) l
-          ≡ rebuilt (map (touched l) outer)
-          (unwrap_or (option_map (forgotten (touched (reached s frames inside l).rest f)) grown)
-          (followed_by (forgotten f (rebuilt (reached s frames inside l).inner inside))
-          (line_block s (reached s frames inside l).rest)))
-      in_list grown goes =
-          let r = reached s frames inside l in
-          let below = rebuilt r.inner inside in
-          let parts = reached_parts s frames inside l in
-          let containers : AreContainers (outer ++ f ∷ []) =
-          rw ends at (outer_containers r.outer r.inner (rw parts are)) in
-          let levels : AreNested (outer ++ f ∷ []) = rw ends at (outer_nested r.outer r.inner (rw parts nested)) in
-          let all : AllGoOn s (outer ++ f ∷ []) below l r.rest = rw ends at (all_reached s frames inside l) in
-          let whole : rebuilt frames inside ≡ rebuilt outer (forgotten f below) =
-          sym (reached_same s frames inside l) ∙ rw ends (rebuilt_more outer f below) in
-          rw whole (line_inside s (forgotten f below) l r.rest outer (outer_containers outer (f ∷ []) containers)
-          (outer_nested outer (f ∷ []) levels) (no_list_around outer f levels (ap is_list list))
-          (around_all s below l r.rest outer f (ap is_list list) all)
-          ∙ rw (list_goes_on s f below r.rest marker list, goes) refl)
-
-      list_grown : (grown : Forest Block)
-          → option_or (goes_on s (rebuilt (reached s frames inside l).inner inside) (reached s frames inside l).rest)
-          (option_map (followed_by (rebuilt (reached s frames inside l).inner inside))
-          (next_item s (reached s frames inside l).rest marker)) ≡ Some grown
-          → with_line s (rebuilt frames inside) l ≡ rebuilt (map (touched l) (outer ++ f ∷ [])) grown
-      list_grown grown goes = in_list (Some grown) goes
-          ∙ touched_around l (reached s frames inside l).rest outer f grown (reached_next s frames inside l)
-
-      -- with an item more
-      pub item_begins : (new : Forest Block)
-          → goes_on s (rebuilt (reached s frames inside l).inner inside) (reached s frames inside l).rest ≡ None
-          → next_item s (reached s frames inside l).rest marker ≡ Some new → with_line s (rebuilt frames inside) l
-          ≡ rebuilt (map (touched l) (outer ++ f ∷ []))
-          (followed_by (rebuilt (reached s frames inside l).inner inside) new)
-      item_begins new none next = list_grown _ (rw (none, next) refl)
-
-      -- or with what follows it, where it ends
-      pub list_ends :
-          goes_on s (rebuilt (reached s frames inside l).inner inside) (reached s frames inside l).rest ≡ None
-          → next_item s (reached s frames inside l).rest marker ≡ None → with_line s (rebuilt frames inside) l
-          ≡ rebuilt (map (touched l) outer)
-          (followed_by (forgotten f (rebuilt (reached s frames inside l).inner inside))
-          (line_block s (reached s frames inside l).rest))
-      list_ends none next = in_list None (rw (none, next) refl)
-
-  -- what is in the innermost container that it reaches goes on
-  pub last_goes_on : (grown : Forest Block)
-      → goes_on s (rebuilt (reached s frames inside l).inner inside) (reached s frames inside l).rest ≡ Some grown
-      → with_line s (rebuilt frames inside) l ≡ rebuilt (map (touched l) (reached s frames inside l).outer) grown
-  last_goes_on grown goes = by_test (innermost_is is_list (reached s frames inside l).outer) (λ is.
-      let list = innermost_apart is_list (reached s frames inside l).outer is in
-      let marked = marker_of_list list.last.block.kind list.passes in
-      list_grown list.outer list.last marked.marker list.are marked.is grown (rw goes refl)
-      ∙ ap (λ (fs : List Frame). rebuilt (map (touched l) fs) grown) (sym list.are))
-      (λ plain. outer_go_on plain ∙ rw goes refl)
-
-  -- it does not, and is in no list
   pub block_begins :
       goes_on s (rebuilt (reached s frames inside l).inner inside) (reached s frames inside l).rest ≡ None
       → innermost_is is_list (reached s frames inside l).outer ≡ false → with_line s (rebuilt frames inside) l
       ≡ rebuilt (map (touched l) (reached s frames inside l).outer)
       (followed_by (rebuilt (reached s frames inside l).inner inside) (line_block s (reached s frames inside l).rest))
-  block_begins none plain = outer_go_on plain ∙ rw none refl
+  block_begins none plain = outer_go_on s frames inside l are nested plain ∙ rw none refl
+
+  -- it reaches all of them
+  pub all_go_on : (reached s frames inside l).inner ≡ [] → innermost_is is_list frames ≡ false
+      → with_line s (rebuilt frames inside) l
+      ≡ rebuilt (map (touched l) frames) (with_line s inside (reached s frames inside l).rest)
+  all_go_on none plain = rw (all_outer s frames inside l none, none) at (outer_go_on s frames inside l are nested) plain
+
+  -- it is a list, with an item more
+  module _ (outer : List Frame) (f : Frame) (marker : ListMarker)
+      (ends : (reached s frames inside l).outer ≡ f ∷ outer) (list : f.block.kind ≡ was.list_container marker)
+      (none : goes_on s (rebuilt (reached s frames inside l).inner inside) (reached s frames inside l).rest ≡ None)
+    where
+      pub item_begins : (new : Forest Block) → next_item s (reached s frames inside l).rest marker ≡ Some new
+          → with_line s (rebuilt frames inside) l ≡ rebuilt (map (touched l) (f ∷ outer))
+          (followed_by (rebuilt (reached s frames inside l).inner inside) new)
+      item_begins = (list_reached s frames inside l are nested outer f marker list ends none).0
+
+      -- or with what follows it, where it ends
+      pub list_ends : next_item s (reached s frames inside l).rest marker ≡ None → with_line s (rebuilt frames inside) l
+          ≡ rebuilt (map (touched l) outer)
+          (followed_by (forgotten f (rebuilt (reached s frames inside l).inner inside))
+          (line_block s (reached s frames inside l).rest))
+      list_ends = (list_reached s frames inside l are nested outer f marker list ends none).1

@@ -1,47 +1,45 @@
 -- The open blocks, as one is opened, closed or replaced; items in an open leaf, lines of code among them, and whole
 -- leaves.
 use Rattle.std.proofs.Common.{◌≡◌, ℕ, zero, suc, ◌-◌, ◌<◌, Bool, true, false, ◌||◌, List, [], ◌∷◌, ◌++◌, Some, length}
-use Rattle.std.proofs.Common.{take, refl, ap, ◌∙◌, arith, ◌+◌, ◌≤◌, sym, subst, append_assoc, append-nil}
-use Rattle.std.specs.Prelude.{if◌then◌else◌, Option, None, cond, nat_le, nat_lt, ◌==◌, replicate, slice_get}
-use Rattle.std.proofs.lemmas.Bool.Decides.{nat_tests}
-use Rattle.std.proofs.lemmas.Option.{same_Some}
+use Rattle.std.proofs.Common.{drop, take, refl, ap, ◌∙◌, arith, ◌+◌, ◌≤◌, sym, append_assoc, append-nil, if◌then◌else◌}
+use Rattle.std.proofs.Common.{Option, None, cond, nat_le, nat_lt, ◌==◌, replicate, slice_get, true≢false}
+use Rattle.std.proofs.Common.{take-append-drop}
 use native.Mathlib.Numerals.{unary_clauses}
-use Rattle.markdown_builder.specs.declared.open_block.OpenBlock.{OpenBlock}
-use Rattle.markdown_builder.specs.BuilderView.{BuilderView, innermost_block, AppendsItem, AppendsText, parts_of}
-use Rattle.markdown_builder.specs.BuilderView.{with_items}
-use Rattle.markdown_plain.specs.OpenBlocks.{has_leaf, innermost_is, is_table, outer_of, without_leaf}
-use Rattle.markdown_base.specs.Bytes.{space, tab}
+use Rattle.markdown_plain.proofs.Names.{nat_tests, same_Some, OpenBlock, BuilderView, innermost_block, parts_of}
+use Rattle.markdown_plain.proofs.Names.{with_items, has_leaf, outer_of, without_leaf, space, Forest, nil, node}
+use Rattle.markdown_plain.proofs.Names.{ItemBody, Alignment, HeadingLevel, Shown, chain_of, plain_item, settled_below}
+use Rattle.markdown_plain.proofs.Names.{shown_item, followed_by, with_trees, more_items, no_items, LineLeft}
+use Rattle.markdown_plain.proofs.Names.{column_after, leading_space, space_from, space_width, HeldLine, Line, Position}
+use Rattle.markdown_plain.proofs.Names.{left_from, Braces, Source, SourceLine, cut, shown_heading, Placing, GoesOn}
+use Rattle.markdown_plain.proofs.Names.{OpensHeadingOf, PutsBlock, stepped, HasItems, HasMoreTexts, HasTrees}
+use Rattle.markdown_plain.proofs.Names.{after_line, AreHeld, IsRest}
+use Rattle.markdown_builder.specs.BuilderView.{AppendsItem, AppendsText}
 use Rattle.markdown_base.specs.Event.{HeadingView}
-use Rattle.markdown_base.specs.Forest.{Forest, nil, node}
 use Rattle.markdown_base.specs.HeadingWords.{HeadingWords, words_of, worded_heading}
 use Rattle.markdown_base.specs.declared.block_parts.HeadingAttributes.{HeadingAttributes}
 use Rattle.markdown_base.specs.declared.index.HeadingIndex.{HeadingIndex}
-use Rattle.markdown_base.specs.declared.item.ItemBody.{ItemBody}
-use Rattle.markdown_base.specs.declared.tag.Alignment.{Alignment}
-use Rattle.markdown_base.specs.declared.tag.HeadingLevel.{HeadingLevel}
-use Rattle.markdown_builder.specs.Shown.{Shown, chain_of, plain_item, settled_below, shown_item, synthesized_item}
-use Rattle.markdown_builder.specs.Shown.{tight_shown, with_block}
+use Rattle.markdown_builder.specs.Shown.{synthesized_item, tight_shown, with_block}
 use Rattle.markdown_builder.specs.Tightness.{is_tight_list}
-use Rattle.markdown_builder.specs.TreeLevels.{followed_by, items_changed, with_trees}
-use Rattle.markdown_items.proofs.RestOfLineLemmas.{more_items, no_items}
-use Rattle.markdown_scan.specs.LineStart.{LineLeft, Space, column_after, leading_space, space_from, space_width}
-use Rattle.markdown_lines.specs.declared.held_line.HeldLine.{HeldLine}
-use Rattle.markdown_lines.specs.declared.line.Line.{Line}
-use Rattle.markdown_lines.specs.declared.position.Position.{Position}
-use Rattle.markdown_lines.specs.Positions.{left_from}
-use Rattle.markdown_lines.specs.declared.braces.Braces.{Braces}
-use Rattle.markdown_base.specs.Source.{Source}
-use Rattle.markdown_lines.specs.HeadingAttributes.{AreAttributes, heading_of_words, words_in}
-use Rattle.markdown_lines.specs.SourceLines.{SourceLine, cut}
-use Rattle.markdown_block_rules.specs.BlockRules.{shown_heading}
+use Rattle.markdown_builder.specs.TreeLevels.{items_changed}
+use Rattle.markdown_lines.specs.HeadingAttributes.{AreAttributes, heading_of_words}
 use Rattle.markdown_block_rules.specs.LineContents.{source_line, source_lines}
-use Rattle.markdown_plain.specs.declared.placing.Placing.{Placing}
 use Rattle.markdown_plain.specs.Fits.{after_lines}
-use Rattle.markdown_plain.specs.Fitting.{GoesOn, OpensHeadingOf, PutsBlock, stepped}
-use Rattle.markdown_plain.specs.LeafTrees.{AddsLines, HasItems, HasMoreTexts, HasTrees}
-use Rattle.markdown_plain.specs.CodeLines.{after_line, owed_spaces, rest_from}
-use Rattle.markdown_plain.specs.HeldSources.{AreHeld, IsHeld, IsRest}
+use Rattle.markdown_plain.specs.LeafTrees.{AddsLines}
+use Rattle.markdown_plain.specs.CodeLines.{owed_spaces, rest_from}
+use Rattle.markdown_plain.specs.HeldSources.{IsHeld}
 use Rattle.markdown_base.specs.declared.item.ItemBody.TheVariants as body
+
+-- ---- cases
+
+-- a test passes or fails
+pub by_test : {P : Type 0} (b : Bool) → (b ≡ true → P) → (b ≡ false → P) → P
+by_test true first second = first refl
+by_test false first second = second refl
+
+-- there is something, or not
+pub by_option : {A P : Type 0} (o : Option A) → (o ≡ None → P) → ((x : A) → o ≡ Some x → P) → P
+by_option None none some = none refl
+by_option (Some x) none some = some x refl
 
 -- ---- the open blocks
 
@@ -62,11 +60,7 @@ pub outside_leaf : (view : BuilderView) → has_leaf view ≡ false → without_
 outside_leaf view outside = ap (λ leaf. if leaf then outer_of view.blocks else view.blocks) outside
 
 pub no_leaf_there : (view : BuilderView) → has_leaf view ≡ false → view.leaf ≡ false
-no_leaf_there view outside = first view.leaf (innermost_is is_table view.blocks) outside
-  where
-    first : (one other : Bool) → (one || other) ≡ false → one ≡ false
-    first true other none = none
-    first false other none = refl
+no_leaf_there view outside = by_test view.leaf (λ leaf. absurd (true≢false (rw leaf at outside))) (λ closed. closed)
 
 -- those around an open leaf block
 pub around_leaf : (view : BuilderView) (outer : List OpenBlock) (block : OpenBlock) → has_leaf view ≡ true
@@ -104,17 +98,14 @@ pub record Parted (blocks : List OpenBlock) : Type 0 where
   pub block : OpenBlock
   pub is : blocks ≡ outer_of blocks ++ block ∷ []
 
-parted : (first : OpenBlock) (blocks : List OpenBlock) → Parted (first ∷ blocks)
-unfolding outer_of
-parted first [] = record { block = first; is = refl }
-parted first (second ∷ blocks) =
-    let p = parted second blocks in
-    record { block = p.block; is = ap (λ (b : List OpenBlock). first ∷ b) p.is }
-
 -- a list of blocks that is not empty has a last one
 pub last_apart : (blocks : List OpenBlock) → (blocks ≡ [] → ⊥) → Parted blocks
+unfolding outer_of
 last_apart [] some = absurd (some refl)
-last_apart (first ∷ blocks) some = parted first blocks
+last_apart (first ∷ []) some = record { block = first; is = refl }
+last_apart (first ∷ second ∷ blocks) some =
+    let p = last_apart (second ∷ blocks) (λ e. cc (e)) in
+    record { block = p.block; is = ap (λ (b : List OpenBlock). first ∷ b) p.is }
 
 -- ---- levels
 
@@ -131,24 +122,12 @@ pub closed_tree : (outer : List (Forest Shown)) (inside : Forest Shown) (a : Sho
 closed_tree [] inside a some = absurd (some refl)
 closed_tree (l ∷ []) inside a some = refl
 closed_tree (l ∷ m ∷ []) inside a some = refl
-closed_tree (l ∷ m ∷ n ∷ outer) inside a some =
-    ap (λ ls. l ∷ ls) (closed_tree (m ∷ n ∷ outer) inside a (λ e. cc (e)))
+closed_tree (l ∷ m ∷ n ∷ outer) inside a some = ap (λ ls. l ∷ ls) (closed_tree (m ∷ n ∷ outer) inside a (λ e. cc (e)))
 
 -- a block that is no tight list keeps what is in it
 pub settled_leaf : (a : Shown) (inside : Forest Shown) → is_tight_list a.item.body ≡ false
     → settled_below a inside ≡ inside
 settled_leaf a inside e = ap (λ b. cond b (items_changed tight_shown inside) inside) e
-
--- a leaf that was opened, filled and closed is put into the innermost level
-put_leaf : (levels : List (Forest Shown)) (items : List Shown) (a : Shown) → (levels ≡ [] → ⊥)
-    → is_tight_list a.item.body ≡ false
-    → with_block (with_items (levels ++ nil ∷ []) items) a ≡ with_trees levels (node a (chain_of items) nil)
-put_leaf levels items a some e =
-    rw (
-      trees_last levels nil (chain_of items),
-      closed_tree levels (chain_of items) a some,
-      settled_leaf a (chain_of items) e,
-    ) refl
 
 -- the innermost block is the last
 pub same_block : (blocks outer others : List OpenBlock) (a b : OpenBlock) → blocks ≡ outer ++ a ∷ []
@@ -165,7 +144,9 @@ pub put_opened : (levels : List (Forest Shown)) (now new : BuilderView) (outer :
     → new.levels ≡ with_trees levels (node a (chain_of items) nil)
 put_opened levels now new outer block items a blocks filled is leaf put some =
     let same = same_block now.blocks outer (outer_of now.blocks) block put.block blocks put.was in
-    rw (put.levels, ← same, is, filled) (put_leaf levels items a some leaf)
+    let below = chain_of items in
+    rw (put.levels, ← same, is, filled, trees_last levels nil below, closed_tree levels below a some)
+    (rw (settled_leaf a below leaf) refl)
 
 -- ---- headings
 
@@ -185,46 +166,37 @@ pub attributed_shown : (texts : List (List ℕ)) (alignments : List (List Alignm
     (ix : HeadingIndex) (start end : ℕ) → headings ≡ before ++ words ∷ [] → ix.0 ≡ length before + 1
     → worded_heading level words ≡ h
     → shown_item (record { texts = texts; headings = headings; alignments = alignments })
-    (record { start = start; end = end; body = body.Heading level (Some ix) })
-    ≡ record {
+    (record { start = start; end = end; body = body.Heading level (Some ix) }) ≡ record {
       item = record { start = start; end = end; body = body.Heading level (Some (record { 0 = 1 })) };
       text = None;
       heading = Some h;
       alignments = [];
     }
 attributed_shown texts alignments headings before words h level ix start end more number is =
-    let place : ix.0 - 1 ≡ length before = omega (arith, number) in
-    rw (place, more, get_last before words, is) refl
+    let place : ix.0 - 1 ≡ length before = omega (arith, number) in rw (place, more, get_last before words, is) refl
 
 -- a heading that was opened and filled is put into the innermost level
 pub put_heading : (s : Source) (old opened now new : BuilderView) (level : HeadingLevel) (braces : Option Braces)
-    (items : List Shown) → s.text ≡ old.text
-    → OpensHeadingOf old opened level braces → now.blocks ≡ opened.blocks → now.headings ≡ opened.headings
-    → now.levels ≡ with_items opened.levels items → PutsBlock now new
+    (items : List Shown) → s.text ≡ old.text → OpensHeadingOf old opened level braces → now.blocks ≡ opened.blocks
+    → now.headings ≡ opened.headings → now.levels ≡ with_items opened.levels items → PutsBlock now new
     → HasTrees old new (shown_heading s old.at now.at level braces (chain_of items))
 put_heading s old opened now new level None items text opens blocks headings filled put some =
     put_opened old.levels now new old.blocks (record { start = old.at; body = body.Heading level None }) items _
-    (blocks ∙ ap (λ (b : BuilderView). b.blocks) opens)
-    (filled ∙ ap (λ (b : BuilderView). with_items b.levels items) opens) refl refl put some
+    (rw (blocks, opens) refl) (rw (filled, opens) refl) refl refl put some
 put_heading s old opened now new level (Some braces) items text opens blocks headings filled put some =
-    let words = opens.0 in
-    let ix = opens.2.0 in
-    let is = opens.2.2 in
+    let ix = opens.2.0 in let is = opens.2.2 in
     put_opened old.levels now new old.blocks (record { start = old.at; body = body.Heading level (Some ix) }) items _
-    (blocks ∙ ap (λ (b : BuilderView). b.blocks) is)
-    (filled ∙ ap (λ (b : BuilderView). with_items b.levels items) is)
-    (attributed_shown now.texts now.alignments now.headings old.headings words _ level ix old.at now.at
-    (headings ∙ ap (λ (b : BuilderView). b.headings) is) opens.2.1
-    (opens.1 ∙ ap (λ t. heading_of_words level (words_in t braces)) (sym text))) refl put some
+    (rw (blocks, is) refl) (rw (filled, is) refl)
+    (attributed_shown now.texts now.alignments now.headings old.headings opens.0 _ level ix old.at now.at
+    (rw (headings, is) refl) opens.2.1 (rw text opens.1)) refl put some
 
 -- ---- lines of code
 
 owed_is : (n : ℕ) → 0 < n → n ≤ 3 → owed_spaces n ≡ replicate n space
-owed_is zero some few = absurd (omega (arith, some))
 owed_is (suc zero) some few = refl
 owed_is (suc (suc zero)) some few = refl
 owed_is (suc (suc (suc zero))) some few = refl
-owed_is (suc (suc (suc (suc n)))) some few = absurd (omega (arith, few))
+owed_is n some few = absurd (omega (arith, some, few))
 
 -- what holds of either value of a test
 pub on_test : {A : Type 0} (P : A → Type 0) (test : Bool) (x y : A) → (test ≡ true → P x) → (test ≡ false → P y)
@@ -232,12 +204,16 @@ pub on_test : {A : Type 0} (P : A → Type 0) (test : Bool) (x y : A) → (test 
 on_test P true x y first second = first refl
 on_test P false x y first second = second refl
 
+-- what holds of a value that may be there
+pub on_option : {A : Type 0} (P : Option A → Type 0) (value : Option A) → P None
+    → ((a : A) → value ≡ Some a → P (Some a)) → P value
+on_option P None none some = none
+on_option P (Some a) none some = some a refl
+
 -- texts after more texts
 pub texts_after : (old now new : BuilderView) → HasMoreTexts old now → HasMoreTexts now new → HasMoreTexts old new
-texts_after old now new first second = record {
-  more = first.more ++ second.more;
-  are = second.are ∙ (ap (λ ts. ts ++ second.more) first.are ∙ append_assoc old.texts first.more second.more);
-}
+texts_after old now new first second =
+    record { more = first.more ++ second.more; are = rw (second.are, first.are, append_assoc) refl }
 
 -- no text was added
 pub no_text : (old new : BuilderView) → new.texts ≡ old.texts → HasMoreTexts old new
@@ -257,8 +233,8 @@ owed_added old here new start zero step some none =
     let is : new.builder ≡ stepped old.builder start = ap (λ (p : Placing). p.builder) (none refl) ∙ step in
     record {
       goes_on = rw is refl;
-      texts = no_text old.builder new.builder (ap (λ (v : BuilderView). v.texts) is);
-      none = λ e. ap (λ (v : BuilderView). v.levels) is;
+      texts = no_text old.builder new.builder (rw is refl);
+      none = λ e. rw is refl;
       some = λ more. absurd (omega (arith, more));
     }
 owed_added old here new start (suc owed) step some none =
@@ -271,31 +247,22 @@ owed_added old here new start (suc owed) step some none =
     }
 
 -- the columns that a tab owes before a line, and then the line, are the items of a line of code
-code_line : (old owed whole : BuilderView) (b : ItemBody) (line : HeldLine) (source : SourceLine)
-    → IsHeld line source → OwedAdded old owed line.start line.owed
-    → (line.next ≤ line.start → whole.levels ≡ owed.levels)
+code_line : (old owed whole : BuilderView) (b : ItemBody) (line : HeldLine) (source : SourceLine) → IsHeld line source
+    → OwedAdded old owed line.start line.owed → (line.next ≤ line.start → whole.levels ≡ owed.levels)
     → (line.start < line.next → whole.levels ≡ with_items owed.levels (plain_item line.start line.next b ∷ []))
     → HasItems old whole (source_line b source)
 code_line old owed whole b line source is o over more =
+    let start = source.left.scanned in
+    let first : owed.levels ≡ with_items old.levels (if source.left.owed == 0 then []
+    else synthesized_item start start (replicate source.left.owed space) ∷ []) = by_test (source.left.owed == 0)
+    (λ e. rw (e, no_items old.levels) (o.none (grind (arith, nat_tests, e, is.owed)))) (λ e.
+    let any : 0 < line.owed = grind (arith, nat_tests, e, is.owed) in
+    rw (e, ← is.start, ← is.owed, ← owed_is line.owed any is.few) (o.some any)) in
+    let after = if nat_lt start source.next then plain_item start source.next b ∷ [] else [] in
+    let rest : whole.levels ≡ with_items owed.levels after = by_test (nat_lt start source.next)
+    (λ e. rw (e, ← is.start, ← is.next) (more (grind (arith, nat_tests, e, is.start, is.next))))
+    (λ e. rw (e, no_items owed.levels) (over (grind (arith, nat_tests, e, is.start, is.next)))) in
     rest ∙ (ap (λ ls. with_items ls after) first ∙ more_items old.levels _ after)
-  where
-    first : owed.levels ≡ with_items old.levels (if source.left.owed == 0 then []
-        else synthesized_item source.left.scanned source.left.scanned (replicate source.left.owed space) ∷ [])
-    first =
-        on_test (λ items. owed.levels ≡ with_items old.levels items) (source.left.owed == 0) [] _
-        (λ e. o.none (grind (arith, nat_tests, e, is.owed)) ∙ sym (no_items old.levels))
-        (λ e. let any : 0 < line.owed = grind (arith, nat_tests, e, is.owed) in
-        rw (← is.start, ← is.owed, ← owed_is line.owed any is.few) (o.some any))
-
-    after : List Shown
-    after =
-        if nat_lt source.left.scanned source.next then plain_item source.left.scanned source.next b ∷ [] else []
-
-    rest : whole.levels ≡ with_items owed.levels after
-    rest =
-        on_test (λ items. whole.levels ≡ with_items owed.levels items) (nat_lt source.left.scanned source.next) _ []
-        (λ e. rw (← is.start, ← is.next) (more (grind (arith, nat_tests, e, is.start, is.next))))
-        (λ e. over (grind (arith, nat_tests, e, is.start, is.next)) ∙ sym (no_items owed.levels))
 
 -- ---- lines that are added
 
@@ -312,27 +279,21 @@ one_line old new b line one (source ∷ other ∷ sources) are = absurd are.1
 pub line_over : (old now : BuilderView) (b : ItemBody) (line : HeldLine) → OwedAdded old now line.start line.owed
     → line.next ≤ line.start → AddsLines old now b (line ∷ [])
 line_over old now b line o over = record {
-  goes_on =
-      let end : line.start ≡ after_line line.start line.next = omega (arith, over) in
-      subst (GoesOn old now) end o.goes_on;
+  goes_on = let end : after_line line.start line.next ≡ line.start = omega (arith, over) in rw end o.goes_on;
   texts = o.texts;
   items = one_line old now b line (λ source is. code_line old now now b line source is o (λ e. refl)
       (λ more. absurd (omega (arith, more, over))));
 }
 
 -- a line that is added after what a tab owes
-pub line_added : (old now new : BuilderView) (b : ItemBody) (line : HeldLine)
-    → OwedAdded old now line.start line.owed → line.start < line.next → AppendsItem now new b line.next
-    → AddsLines old new b (line ∷ [])
+pub line_added : (old now new : BuilderView) (b : ItemBody) (line : HeldLine) → OwedAdded old now line.start line.owed
+    → line.start < line.next → AppendsItem now new b line.next → AddsLines old new b (line ∷ [])
 line_added old now new b line o more adds = record {
   goes_on =
-      let end : line.next ≡ after_line line.start line.next = omega (arith, more) in
-      subst (GoesOn old new) end (rw (adds, o.goes_on) refl);
-  texts = texts_after old now new o.texts (no_text now new (ap (λ (v : BuilderView). v.texts) adds));
+      let end : after_line line.start line.next ≡ line.next = omega (arith, more) in rw (end, adds, o.goes_on) refl;
+  texts = texts_after old now new o.texts (no_text now new (rw adds refl));
   items = one_line old new b line (λ source is. code_line old now new b line source is o
-      (λ over. absurd (omega (arith, more, over)))
-      (λ any. ap (λ (v : BuilderView). v.levels) adds
-      ∙ ap (λ n. with_items now.levels (plain_item n line.next b ∷ [])) (ap (λ (v : BuilderView). v.at) o.goes_on)));
+      (λ over. absurd (omega (arith, more, over))) (λ any. rw (adds, o.goes_on) refl));
 }
 
 pub lines_append : (b : ItemBody) (xs ys : List SourceLine)
@@ -342,26 +303,11 @@ lines_append b (x ∷ xs) ys =
     ap (λ items. source_line b x ++ items) (lines_append b xs ys) ∙ sym (append_assoc (source_line b x) _ _)
 
 -- lines that are held are those of the definition, the first and the last of them apart
-record HeldParts (xs ys : List HeldLine) (sources : List SourceLine) : Type 0 where
-  first : List SourceLine
-  last : List SourceLine
-  is : sources ≡ first ++ last
-  ones : AreHeld xs first
-  others : AreHeld ys last
-
 held_parts : (xs ys : List HeldLine) (sources : List SourceLine) → AreHeld (xs ++ ys) sources
-    → HeldParts xs ys sources
-held_parts [] ys sources are = record { first = []; last = sources; is = refl; ones = tt; others = are }
+    → AreHeld xs (take (length xs) sources) × AreHeld ys (drop (length xs) sources)
+held_parts [] ys sources are = (tt, are)
 held_parts (x ∷ xs) ys [] are = absurd are
-held_parts (x ∷ xs) ys (source ∷ sources) are =
-    let p = held_parts xs ys sources are.1 in
-    record {
-      first = source ∷ p.first;
-      last = p.last;
-      is = ap (λ (ls : List SourceLine). source ∷ ls) p.is;
-      ones = (are.0, p.ones);
-      others = p.others;
-    }
+held_parts (x ∷ xs) ys (source ∷ sources) are = let p = held_parts xs ys sources are.1 in ((are.0, p.0), p.1)
 
 after_both : (from : ℕ) (xs ys : List HeldLine) → after_lines from (xs ++ ys) ≡ after_lines (after_lines from xs) ys
 after_both from [] ys = refl
@@ -379,36 +325,31 @@ adds_none old b = record { goes_on = refl; texts = no_text old old refl; items =
 pub adds_more : {old mid new : BuilderView} {b : ItemBody} {xs ys : List HeldLine} → AddsLines old mid b xs
     → AddsLines mid new b ys → AddsLines old new b (xs ++ ys)
 adds_more {old} {mid} {new} {b} {xs} {ys} one two = record {
-  goes_on = subst (GoesOn old new) (sym (after_both old.at xs ys)) (rw (two.goes_on, one.goes_on) refl);
+  goes_on = rw (after_both old.at xs ys, two.goes_on, one.goes_on) refl;
   texts = texts_after old mid new one.texts two.texts;
   items = λ sources are.
-      let p = held_parts xs ys sources are in
-      two.items p.last p.others
-      ∙ (ap (λ ls. with_items ls (source_lines b p.last)) (one.items p.first p.ones)
-      ∙ (more_items old.levels (source_lines b p.first) (source_lines b p.last)
-      ∙ ap (with_items old.levels) (sym (ap (source_lines b) p.is ∙ lines_append b p.first p.last))));
+      let p = held_parts xs ys sources are in let first = take (length xs) sources in
+      let last = drop (length xs) sources in let whole = take-append-drop (length xs) sources in
+      rw (two.items last p.1, one.items first p.0, more_items, ← lines_append b first last, whole) refl;
 }
 
 -- ---- what a partly read tab owes
 
 width_of : (column b : ℕ) → space_width column b ≤ 4
-width_of column b =
-    on_test (λ n. n ≤ 4) (b == space) 1 _ (λ e. omega arith)
-    (λ e. on_test (λ n. n ≤ 4) (b == tab) (4 - column) 0 (λ e. omega arith) (λ e. omega arith))
+width_of column b = grind (arith, nat_tests)
 
 few_from : (n scanned column : ℕ) (bytes : List ℕ) → (space_from n scanned column bytes).after.owed ≤ 3
 few_from n scanned column [] = omega arith
 few_from n scanned column (b ∷ bytes) =
-    let width = width_of column b in
-    on_test (λ (s : Space). s.after.owed ≤ 3) ((n == 0) || (space_width column b == 0)) _ _ (λ e. omega arith)
-    (λ some. on_test (λ (s : Space). s.after.owed ≤ 3) (nat_lt n (space_width column b)) _ _
-    (λ more. let any : 1 ≤ n = grind (arith, nat_tests, some) in omega (arith, width, any))
-    (λ less. few_from (n - space_width column b) (scanned + 1) (column_after column b) bytes))
+    by_test ((n == 0) || (space_width column b == 0)) (λ none. rw none (omega arith)) (λ some.
+    by_test (nat_lt n (space_width column b)) (λ more.
+    let any : 1 ≤ n = grind (arith, nat_tests, some) in rw (some, more) (omega (arith, width_of column b, any)))
+    (λ less. rw (some, less) (few_from (n - space_width column b) (scanned + 1) (column_after column b) bytes)))
 
 pub few_owed : (columns : ℕ) (left : LineLeft) → left.owed ≤ 3 → (leading_space columns left).after.owed ≤ 3
 few_owed columns left few =
-    on_test (λ (s : Space). s.after.owed ≤ 3) (nat_le columns left.owed) _ _ (λ e. omega (arith, few))
-    (λ e. few_from (columns - left.owed) left.scanned left.column left.bytes)
+    by_test (nat_le columns left.owed) (λ e. rw e (omega (arith, few)))
+    (λ e. rw e (few_from (columns - left.owed) left.scanned left.column left.bytes))
 
 pub rest_held : (text : List ℕ) (position : Position) (line : Line) (source : SourceLine)
     → IsRest text position line source → IsHeld (rest_from line position) source
@@ -426,11 +367,11 @@ pub cut_held : (text : List ℕ) (position after : Position) (line : Line) (sour
 cut_held text position after line source columns read is =
     let same : left_from text after line.stop ≡ (leading_space columns source.left).after =
     read ∙ ap (λ left. (leading_space columns left).after) is.left in
+    let few = few_owed columns (left_from text position line.stop) is.few in
     record {
       start = ap (λ (left : LineLeft). left.scanned) same;
       owed = ap (λ (left : LineLeft). left.owed) same;
-      few = subst (λ n. n ≤ 3) (ap (λ (left : LineLeft). left.owed) (sym read))
-          (few_owed columns (left_from text position line.stop) is.few);
+      few = omega (arith, ap (λ (left : LineLeft). left.owed) read, few);
       next = is.next;
     }
 
@@ -438,6 +379,5 @@ cut_held text position after line source columns read is =
 pub held_more : (lines : List HeldLine) (sources : List SourceLine) (line : HeldLine) (source : SourceLine)
     → AreHeld lines sources → IsHeld line source → AreHeld (lines ++ line ∷ []) (sources ++ source ∷ [])
 held_more [] [] line source are is = (is, tt)
-held_more [] (m ∷ sources) line source are is = absurd are
-held_more (l ∷ lines) [] line source are is = absurd are
 held_more (l ∷ lines) (m ∷ sources) line source are is = (are.0, held_more lines sources line source are.1 is)
+held_more lines sources line source are is = absurd are

@@ -1,4 +1,5 @@
 -- laws on the open blocks, and on what containers take of a line
+pub mod Names
 pub mod LeafTreesLemmas
 pub mod ShownRowsLemmas
 pub mod ContainersLemmas
@@ -26,7 +27,6 @@ pub mod ParagraphsInPlaceLemmas
 -- on what the pass stands for between two lines
 pub mod BlankStandingLemmas
 pub mod TextReachedLemmas
-pub mod GrownLeavesLemmas
 pub mod AddedRowsLemmas
 pub mod PlacedTablesLemmas
 -- on lines that are text

@@ -1,48 +1,32 @@
 -- Which block is the innermost open one: a table, another leaf, or a container; so whether a leaf block is open, and
 -- where there is room for a block.
-use Rattle.std.proofs.Common.{◌≡◌, ℕ, Bool, true, false, not, ◌||◌, List, [], ◌∷◌, Option, Some, None, suc, ◌-◌, arith}
-use Rattle.std.proofs.Common.{length, refl, sym, ap, ◌∙◌, true≢false, subst, ◌≤◌, ◌==◌, nat_le}
-use Rattle.std.specs.Prelude.{slice_get, ◌&&◌}
-use Rattle.std.specs.Option.{option_map_or}
-use Rattle.std.proofs.lemmas.Bool.Decides.{nat_tests}
-use Rattle.std.proofs.lemmas.Bool.{and_parts}
-use Rattle.markdown_base.specs.Forest.{Forest, nil, node}
-use Rattle.markdown_base.specs.declared.item.ItemBody.{ItemBody}
-use Rattle.markdown_builder.specs.BuilderView.{BuilderView, innermost_block}
-use Rattle.markdown_builder.specs.Shown.{Shown, unnumbered}
-use Rattle.markdown_builder.specs.declared.open_block.OpenBlock.{OpenBlock}
-use Rattle.markdown_base.specs.Source.{Source}
-use Rattle.markdown_lines.specs.SourceLines.{SourceLine}
-use Rattle.markdown_block_rules.specs.BlockGrowth.{Block, Kind}
-use Rattle.markdown_block_rules.specs.BlockRules.{in_no_item, shown_blocks}
-use Rattle.markdown_plain.specs.declared.pass.LeafKind.{LeafKind}
-use Rattle.markdown_plain.specs.declared.pass.Pass.{Pass}
+use Rattle.std.proofs.Common.{◌≡◌, ℕ, Bool, true, false, not, List, [], ◌∷◌, Option, Some, None, arith, length, refl}
+use Rattle.std.proofs.Common.{sym, ap, ◌∙◌, true≢false, ◌≤◌, ◌==◌, nat_le}
+use Rattle.markdown_plain.proofs.Names.{nat_tests, and_parts, or_right, Forest, nil, node, ItemBody, BuilderView, Shown}
+use Rattle.markdown_plain.proofs.Names.{unnumbered, OpenBlock, Source, SourceLine, Block, Kind, Around, LeafKind, Pass}
+use Rattle.markdown_plain.proofs.Names.{MayEnd, is_container, Frame, has_leaf, without_leaf, IsOpenIn, is_leaf, MayOpen}
+use Rattle.markdown_plain.proofs.Names.{around_innermost, IsBuilt, GoesOnBy, HasLast, IsLeafKind, IfParagraph, HeldLine}
+use Rattle.markdown_plain.proofs.Names.{LineRest, IsHere, Turn, first, later}
+use Rattle.std.proofs.lemmas.Bool.{false_from_ne_true, not-true, or_from, or_left}
+use Rattle.std.proofs.lemmas.List.{nil_from_length}
+use native.Mathlib.Numerals.{unary_clauses}
 use Rattle.markdown_plain.specs.Closable.{AreContainers, MayMakeRoom, has_ended, has_room, is_down}
-use Rattle.markdown_plain.specs.Closing.{MayEnd}
-use Rattle.markdown_plain.specs.Containers.{is_container}
-use Rattle.markdown_plain.specs.Frames.{Frame}
-use Rattle.markdown_plain.specs.OpenBlocks.{has_leaf, innermost_is, is_table, without_leaf, is_list}
-use Rattle.markdown_plain.specs.OpenLeaves.{IsOpenIn, is_leaf, leaf_block}
-use Rattle.markdown_plain.specs.OpenedFrames.{around_innermost, MayOpen}
-use Rattle.markdown_plain.specs.Settled.{AreOpen, IsBodyOf, IsBuilt}
-use Rattle.markdown_plain.specs.Standing.{GoesOnBy, HasLast, IsLeafKind, KnowsLast}
-use Rattle.markdown_plain.specs.TableHeads.{IfParagraph}
-use Rattle.markdown_lines.specs.declared.held_line.HeldLine.{HeldLine}
-use Rattle.markdown_plain.specs.declared.beginnings.LineRest.{LineRest}
-use Rattle.markdown_plain.specs.Beginning.{IsHere, Turn, first, later}
+use Rattle.markdown_plain.specs.Frames.{innermost_is as innermost_of}
+use Rattle.markdown_plain.specs.OpenBlocks.{innermost_is, is_table, is_list}
 use Rattle.markdown_base.specs.declared.item.ItemBody.TheVariants as body
 use Rattle.markdown_block_rules.specs.BlockGrowth as was
 use Rattle.markdown_plain.specs.declared.pass.LeafKind.TheVariants as leaf
 use Rattle.markdown_plain.specs.OpenLeaves as leaves
 use Rattle.markdown_plain.proofs.AddedCellsLemmas.{HasNoTable}
-use Rattle.markdown_plain.proofs.LinedLeavesLemmas.{shown_alone}
-use Rattle.markdown_plain.proofs.LeafTreesLemmas.{around_leaf, innermost_of_opened, outside_leaf}
+use Rattle.markdown_plain.proofs.FramesLemmas.{inner_alike, tests_alike}
+use Rattle.markdown_plain.proofs.LeafTreesLemmas.{by_test, around_leaf, innermost_of_opened, outside_leaf}
+use Rattle.markdown_plain.proofs.LinedLeavesLemmas.{shown_alone, shown_of_kind}
 use Rattle.markdown_plain.proofs.OpenedFramesLemmas.{as_many_containers, list_innermost}
 
 -- ---- containers
 
 -- a container is no table
-pub no_table_in : (blocks : List OpenBlock) → AreContainers blocks → innermost_is is_table blocks ≡ false
+no_table_in : (blocks : List OpenBlock) → AreContainers blocks → innermost_is is_table blocks ≡ false
 no_table_in [] are = refl
 no_table_in (block ∷ []) are = by_body block.body are.0
   where
@@ -50,42 +34,25 @@ no_table_in (block ∷ []) are = by_body block.body are.0
     by_body (body.Table ix) is = absurd (true≢false (sym is))
     by_body other is = refl
 no_table_in (block ∷ other ∷ blocks) are =
-    let last : length (block ∷ other ∷ blocks) - 1 ≡ suc (length (other ∷ blocks) - 1) = omega arith in
-    ap (λ n. option_map_or (λ b. is_table b.body) (slice_get (block ∷ other ∷ blocks) n) false) last
-    ∙ no_table_in (other ∷ blocks) are.1
+    simp unary_clauses (simp unary_clauses at (no_table_in (other ∷ blocks) are.1))
 
-pub no_table_among : (texts : List (List ℕ)) (blocks : List OpenBlock) (frames : List Frame)
-    → AreOpen texts blocks frames → innermost_is is_table blocks ≡ false
-no_table_among texts [] [] are = refl
-no_table_among texts [] (f ∷ frames) are = absurd are
-no_table_among texts (block ∷ blocks) [] are = absurd are
-no_table_among texts (block ∷ []) (f ∷ frames) are = by_kind f.block.kind are.0.body
+no_table_among : {s : Source} {view : BuilderView} {frames : List Frame} {inside : Forest Block}
+    → IsBuilt s view frames inside → innermost_is is_table view.blocks ≡ false
+no_table_among {view = view} {frames = frames} built =
+    inner_alike is_table (λ kind. false) (tests_alike is_table (λ kind. false) refl (λ kind. refl) (λ m. refl)
+    (λ indent. refl) (λ ix label. refl)) view.texts view.blocks frames built.blocks ∙ never frames
   where
-    by_kind : (kind : Kind) → IsBodyOf texts kind block.body → is_table block.body ≡ false
-    by_kind was.quote_container is = ap is_table is
-    by_kind (was.alert_container kind) is = ap is_table is
-    by_kind (was.list_container marker) is = ap is_table is
-    by_kind (was.item_container indent) is = ap is_table is
-    by_kind (was.footnote_container label) is = ap is_table is.1
-    by_kind other is = absurd is
-no_table_among texts (block ∷ other ∷ blocks) (f ∷ frames) are =
-    let last : length (block ∷ other ∷ blocks) - 1 ≡ suc (length (other ∷ blocks) - 1) = omega arith in
-    ap (λ n. option_map_or (λ b. is_table b.body) (slice_get (block ∷ other ∷ blocks) n) false) last
-    ∙ no_table_among texts (other ∷ blocks) frames are.1
-
-neither : (one other : Bool) → one ≡ false → other ≡ false → (one || other) ≡ false
-neither one other one_is other_is = ap (λ test. test || other) one_is ∙ other_is
+    never : (frames : List Frame) → innermost_of (λ kind. false) frames ≡ false
+    never [] = refl
+    never (f ∷ outer) = refl
 
 -- so no leaf block is open where only containers are
 pub closable_outside : (view : BuilderView) → view.leaf ≡ false → AreContainers view.blocks → has_leaf view ≡ false
-closable_outside view outside are =
-    neither view.leaf (innermost_is is_table view.blocks) outside (no_table_in view.blocks are)
+closable_outside view outside are = or_from _ _ outside (no_table_in view.blocks are)
 
 pub built_outside : (s : Source) (view : BuilderView) (frames : List Frame) (inside : Forest Block)
     → IsBuilt s view frames inside → has_leaf view ≡ false
-built_outside s view frames inside built =
-    neither view.leaf (innermost_is is_table view.blocks) built.outside
-    (no_table_among view.texts view.blocks frames built.blocks)
+built_outside s view frames inside built = or_from _ _ built.outside (no_table_among built)
 
 pub without_built : (s : Source) (view : BuilderView) (frames : List Frame) (inside : Forest Block)
     → IsBuilt s view frames inside → without_leaf view ≡ view.blocks
@@ -108,33 +75,25 @@ number_alike (body.Heading level (Some ix)) = (refl, refl)
 number_alike other = (refl, refl)
 
 -- a table is open as a table
-pub table_shown : (s : Source) (view : BuilderView) (frames : List Frame) (inside : Forest Block) (b : Block)
-    (in_leaf : Bool) (kind : Kind) → b.kind ≡ kind → leaves.is_table kind ≡ true
+pub table_shown : {s : Source} {view : BuilderView} {frames : List Frame} {inside : Forest Block} {b : Block}
+    {in_leaf : Bool} (kind : Kind) → b.kind ≡ kind → leaves.is_table kind ≡ true
     → (is : IsOpenIn s view frames inside in_leaf b) → is_table is.block.body ≡ true
-table_shown s view frames inside b in_leaf (was.table_leaf ended head alignments rows) kind table is =
+table_shown {s} {frames = frames} {b = b} (was.table_leaf ended head alignments rows) kind table is =
     sym (number_alike is.block.body).1
-    ∙ ap (root_is is_table) (is.shown
-    ∙ shown_alone s (around_innermost in_no_item frames) b (was.table_leaf ended head alignments rows) kind)
-table_shown s view frames inside b in_leaf other kind table is = absurd (true≢false (sym table))
+    ∙ ap (root_is is_table) (is.shown ∙ shown_alone s (around_innermost frames) b _ kind)
+table_shown other kind table is = absurd (true≢false (sym table))
 
-pub body_innermost : (s : Source) (view : BuilderView) (frames : List Frame) (inside : Forest Block) (b : Block)
-    (in_leaf : Bool) (test : ItemBody → Bool) → (is : IsOpenIn s view frames inside in_leaf b)
+body_innermost : {s : Source} {view : BuilderView} {frames : List Frame} {inside : Forest Block} {b : Block}
+    {in_leaf : Bool} (test : ItemBody → Bool) → (is : IsOpenIn s view frames inside in_leaf b)
     → innermost_is test view.blocks ≡ test is.block.body
-body_innermost s view frames inside b in_leaf test is =
-    ap (λ found. option_map_or (λ b. test b.body) found false)
-    (ap innermost_block is.blocks ∙ innermost_of_opened is.outer is.block)
+body_innermost test is = rw (is.blocks, innermost_of_opened is.outer is.block)
 
 -- so a leaf block is open
 pub open_has_leaf : (s : Source) (view : BuilderView) (frames : List Frame) (inside : Forest Block) (b : Block)
     → IsOpenIn s view frames inside (not (leaves.is_table b.kind)) b → has_leaf view ≡ true
-open_has_leaf s view frames inside b is = decided (leaves.is_table b.kind) refl
-  where
-    decided : (table : Bool) → leaves.is_table b.kind ≡ table → has_leaf view ≡ true
-    decided true table =
-        ap (λ test. test || innermost_is is_table view.blocks) (is.leaf ∙ ap not table)
-        ∙ (body_innermost s view frames inside b (not (leaves.is_table b.kind)) is_table is
-        ∙ table_shown s view frames inside b (not (leaves.is_table b.kind)) b.kind refl table is)
-    decided false other = ap (λ test. test || innermost_is is_table view.blocks) (is.leaf ∙ ap not other)
+open_has_leaf s view frames inside b is = by_test (leaves.is_table b.kind)
+    (λ table. or_right view.leaf _ (body_innermost is_table is ∙ table_shown b.kind refl table is))
+    (λ other. or_left view.leaf _ (is.leaf ∙ rw other))
 
 -- the open blocks around it
 pub without_open : (s : Source) (view : BuilderView) (frames : List Frame) (inside : Forest Block) (b : Block)
@@ -143,38 +102,24 @@ without_open s view frames inside b is =
     around_leaf view is.outer is.block (open_has_leaf s view frames inside b is) is.blocks
 
 -- a block of a leaf block's kind is shown as no container, and as a table if it is one
-leaf_shown : (s : Source) (frames : List Frame) (b : Block) (how : LeafKind) (kind : Kind) → b.kind ≡ kind
-    → GoesOnBy how kind
-    → (root_is is_container (shown_blocks s (around_innermost in_no_item frames) (leaf_block b)) ≡ false)
-    × (root_is is_table (shown_blocks s (around_innermost in_no_item frames) (leaf_block b)) ≡ leaves.is_table kind)
-leaf_shown s frames b leaf.Indented (was.indented_leaf lines) same is =
-    let shown = shown_alone s (around_innermost in_no_item frames) b (was.indented_leaf lines) same in
-    (ap (root_is is_container) shown, ap (root_is is_table) shown)
-leaf_shown s frames b (leaf.Fenced fence) (was.fenced_leaf opening false lines) same is =
-    let shown = shown_alone s (around_innermost in_no_item frames) b (was.fenced_leaf opening false lines) same in
-    (ap (root_is is_container) shown, ap (root_is is_table) shown)
-leaf_shown s frames b (leaf.Html found) (was.html_leaf kind false lines) same is =
-    let shown = shown_alone s (around_innermost in_no_item frames) b (was.html_leaf kind false lines) same in
-    (ap (root_is is_container) shown, ap (root_is is_table) shown)
-leaf_shown s frames b (leaf.Metadata found) (was.metadata_leaf kind false lines) same is =
-    let shown = shown_alone s (around_innermost in_no_item frames) b (was.metadata_leaf kind false lines) same in
-    (ap (root_is is_container) shown, ap (root_is is_table) shown)
-leaf_shown s frames b how (was.table_leaf ended head alignments rows) same is =
-    let shown =
-    shown_alone s (around_innermost in_no_item frames) b (was.table_leaf ended head alignments rows) same in
-    (ap (root_is is_container) shown, ap (root_is is_table) shown)
-leaf_shown s frames b other kind same is = absurd is
+kind_shown : (s : Source) (around : Around) (b : Block) (how : LeafKind) (kind : Kind) → GoesOnBy how kind
+    → (root_is is_container (shown_of_kind s around b kind) ≡ false)
+    × (root_is is_table (shown_of_kind s around b kind) ≡ leaves.is_table kind)
+kind_shown s around b leaf.Indented (was.indented_leaf lines) is = (refl, refl)
+kind_shown s around b (leaf.Fenced fence) (was.fenced_leaf opening false lines) is = (refl, refl)
+kind_shown s around b (leaf.Html found) (was.html_leaf kind false lines) is = (refl, refl)
+kind_shown s around b (leaf.Metadata found) (was.metadata_leaf kind false lines) is = (refl, refl)
+kind_shown s around b how (was.table_leaf ended head alignments rows) is = (refl, refl)
+kind_shown s around b other kind is = absurd is
 
 -- an open leaf block is no container, and a table if it is one
 pub leaf_alone : (s : Source) (view : BuilderView) (frames : List Frame) (inside : Forest Block) (b : Block)
     (in_leaf : Bool) (how : LeafKind) → GoesOnBy how b.kind → (is : IsOpenIn s view frames inside in_leaf b)
     → (is_container is.block.body ≡ false) × (is_table is.block.body ≡ leaves.is_table b.kind)
 leaf_alone s view frames inside b in_leaf how known is =
-    let kinds = leaf_shown s frames b how b.kind refl known in
-    let alike = number_alike is.block.body in (
-      sym alike.0 ∙ (ap (root_is is_container) is.shown ∙ kinds.0),
-      sym alike.1 ∙ (ap (root_is is_table) is.shown ∙ kinds.1),
-    )
+    let around = around_innermost frames in let shown = is.shown ∙ shown_alone s around b b.kind refl in
+    let kinds = kind_shown s around b how b.kind known in let alike = number_alike is.block.body in
+    (cc (alike.0, ap (root_is is_container) shown, kinds.0), cc (alike.1, ap (root_is is_table) shown, kinds.1))
 
 -- ---- leaves of the builder
 
@@ -182,9 +127,7 @@ leaf_alone s view frames inside b in_leaf how known is =
 pub in_leaf_open : (s : Source) (pass : Pass) (frames : List Frame) (inside : Forest Block) (b : Block)
     → MayEnd s pass frames inside b None → pass.placing.builder.leaf ≡ true
     → IsOpenIn s pass.placing.builder frames inside true b
-in_leaf_open s pass frames inside b may leaf =
-    subst (λ in_leaf. IsOpenIn s pass.placing.builder frames inside in_leaf b) (sym may.unended.1.leaf ∙ leaf)
-    may.unended.1
+in_leaf_open s pass frames inside b may leaf = rw (sym may.unended.1.leaf ∙ leaf) at may.unended.1
 
 -- how it goes on
 pub leaf_known : (how : LeafKind) (kind : Kind) → not (leaves.is_table kind) ≡ true → GoesOnBy how kind
@@ -213,19 +156,11 @@ last_is_table (Some b) = leaves.is_table b.kind
 -- a table is open exactly where the last block is one
 pub table_open : (s : Source) (pass : Pass) (frames : List Frame) (inside : Forest Block) (last : Option Block)
     → HasLast s pass frames inside last → innermost_is is_table pass.placing.builder.blocks ≡ last_is_table last
-table_open s pass frames inside None has =
-    no_table_among pass.placing.builder.texts pass.placing.builder.blocks frames has.0.stands.built.blocks
-table_open s pass frames inside (Some b) has = by_held has.0 has.1 has.2
-  where
-    by_held : (held : Option (List SourceLine)) → MayEnd s pass frames inside b held → KnowsLast pass b held
-        → innermost_is is_table pass.placing.builder.blocks ≡ leaves.is_table b.kind
-    by_held None may knows =
-        body_innermost s pass.placing.builder frames inside b (not (leaves.is_table b.kind)) is_table may.unended.1
-        ∙ (leaf_alone s pass.placing.builder frames inside b (not (leaves.is_table b.kind)) pass.leaf knows.0
-        may.unended.1).1
-    by_held (Some sources) may knows =
-        no_table_among pass.placing.builder.texts pass.placing.builder.blocks frames may.unended.built.blocks
-        ∙ sym (ap leaves.is_table may.unended.kind)
+table_open s pass frames inside None has = no_table_among has.0.stands.built
+table_open s pass frames inside (Some b) (None, may, knows) = body_innermost is_table may.unended.1
+    ∙ (leaf_alone s _ frames inside b _ pass.leaf knows.0 may.unended.1).1
+table_open s pass frames inside (Some b) (Some sources, may, knows) =
+    no_table_among may.unended.built ∙ sym (ap leaves.is_table may.unended.kind)
 
 -- none is, where the last block is none
 pub table_none_last : (last : Option Block) → last_is_table last ≡ false → HasNoTable last
@@ -234,77 +169,47 @@ table_none_last (Some b) none = none
 
 -- ---- where there is room
 
--- where nothing is open but blocks that stay, and none of them is a list, there is room
-pub room_of : (pass : Pass) (depth : ℕ) → has_leaf pass.placing.builder ≡ false → pass.lines.items ≡ []
-    → length pass.placing.builder.blocks ≤ depth → innermost_is is_list pass.placing.builder.blocks ≡ false
-    → has_room pass depth ≡ true
-room_of pass depth leaf none few other =
-    let blocks = pass.placing.builder.blocks in
-    let within : nat_le (length blocks) depth ≡ true = grind (arith, nat_tests, few) in
-    ap (λ b. (not b && (length pass.lines.items == 0) && nat_le (length blocks) depth)
-    && not (innermost_is is_list blocks)) leaf
-    ∙ (ap (λ (ls : List HeldLine). ((length ls == 0) && nat_le (length blocks) depth)
-    && not (innermost_is is_list blocks)) none
-    ∙ (ap (λ b. b && not (innermost_is is_list blocks)) within ∙ ap not other))
-
--- and where there is room nothing else is open
+-- where there is room no other block is open
 pub record IsRoom (pass : Pass) (depth : ℕ) : Type 0 where
   pub leaf : has_leaf pass.placing.builder ≡ false
   pub lines : pass.lines.items ≡ []
   pub few : length pass.placing.builder.blocks ≤ depth
   pub other : innermost_is is_list pass.placing.builder.blocks ≡ false
 
-not_true : (a : Bool) → not a ≡ true → a ≡ false
-not_true true e = sym e
-not_true false e = refl
-
 pub none_held : (lines : List HeldLine) → (length lines == 0) ≡ true → lines ≡ []
-none_held [] none = refl
-none_held (line ∷ lines) none = absurd (grind (arith, nat_tests, none))
+none_held lines none = nil_from_length lines (grind (arith, nat_tests, none))
+
+-- nothing is open beyond the outermost blocks
+down_is : (pass : Pass) (depth : ℕ) → is_down pass depth ≡ true → (has_leaf pass.placing.builder ≡ false)
+    × (pass.lines.items ≡ []) × (length pass.placing.builder.blocks ≤ depth)
+down_is pass depth is =
+    let down = and_parts (has_ended pass) _ is in
+    let ended = and_parts (not (has_leaf pass.placing.builder)) _ down.0 in
+    (not-true _ ended.0, none_held pass.lines.items ended.1, grind (arith, nat_tests, down.1))
 
 pub room_is : (pass : Pass) (depth : ℕ) → has_room pass depth ≡ true → IsRoom pass depth
 room_is pass depth free =
-    let room = and_parts (is_down pass depth) (not (innermost_is is_list pass.placing.builder.blocks)) free in
-    let down = and_parts (has_ended pass) (nat_le (length pass.placing.builder.blocks) depth) room.0 in
-    let ended = and_parts (not (has_leaf pass.placing.builder)) (length pass.lines.items == 0) down.0 in
-    let few = down.1 in
-    record {
-      leaf = not_true (has_leaf pass.placing.builder) ended.0;
-      lines = none_held pass.lines.items ended.1;
-      few = grind (arith, nat_tests, few);
-      other = not_true (innermost_is is_list pass.placing.builder.blocks) room.1;
-    }
+    let room = and_parts (is_down pass depth) _ free in let down = down_is pass depth room.0 in
+    record { leaf = down.0; lines = down.1; few = down.2; other = not-true _ room.1 }
 
--- some block is open beyond the outermost ones
+-- some block is open beyond them
 pub not_down : (pass : Pass) (depth : ℕ) → (has_leaf pass.placing.builder ≡ false → pass.lines.items ≡ []
     → length pass.placing.builder.blocks ≤ depth → ⊥) → is_down pass depth ≡ false
-not_down pass depth never = by_test (is_down pass depth) refl
-  where
-    by_test : (down : Bool) → is_down pass depth ≡ down → is_down pass depth ≡ false
-    by_test false is = is
-    by_test true is =
-        let down = and_parts (has_ended pass) (nat_le (length pass.placing.builder.blocks) depth) is in
-        let ended = and_parts (not (has_leaf pass.placing.builder)) (length pass.lines.items == 0) down.0 in
-        let few = down.1 in
-        absurd (never (not_true (has_leaf pass.placing.builder) ended.0) (none_held pass.lines.items ended.1)
-        (grind (arith, nat_tests, few)))
+not_down pass depth never = false_from_ne_true (is_down pass depth) (λ is.
+    let down = down_is pass depth is in never down.0 down.1 down.2)
 
 -- something is in the way
 pub not_room : (pass : Pass) (depth : ℕ) → (IsRoom pass depth → ⊥) → has_room pass depth ≡ false
-not_room pass depth never = by_test (has_room pass depth) refl
-  where
-    by_test : (free : Bool) → has_room pass depth ≡ free → has_room pass depth ≡ false
-    by_test false is = is
-    by_test true is = absurd (never (room_is pass depth is))
+not_room pass depth never = false_from_ne_true (has_room pass depth) (λ is. never (room_is pass depth is))
 
 -- inside a container that was opened in the line there is
 pub room_inside : (s : Source) (pass : Pass) (frames : List Frame) (depth : ℕ) → MayOpen s pass frames
     → depth ≡ length frames → has_room pass depth ≡ true
 room_inside s pass frames depth may deep =
-    let view = pass.placing.builder in
-    let many = as_many_containers s view frames nil may.built in
-    room_of pass depth (built_outside s view frames nil may.built) may.lines (omega (arith, many, deep))
-    (list_innermost s view frames nil may.built ∙ may.free)
+    let view = pass.placing.builder in let many = as_many_containers s view frames nil may.built in
+    let within : nat_le (length view.blocks) depth ≡ true = grind (arith, nat_tests, many, deep) in
+    let other = list_innermost s view frames nil may.built ∙ may.free in
+    rw (built_outside s view frames nil may.built, may.lines, within, other)
 
 -- so room may be made for what the rest of the line begins
 pub here_room : (s : Source) (pass : Pass) (rest : LineRest) (turn : Turn) (source : SourceLine)

@@ -1,88 +1,56 @@
 -- Calls that fit: where a builder is after one of them, the next fits; and a placed line leaves the pass ready for
 -- the next one.
 use Rattle.std.proofs.Common.{◌≡◌, ℕ, zero, suc, ◌-◌, ◌≤◌, Bool, true, false, List, [], ◌∷◌, ◌++◌, Option, Some, None}
-use Rattle.std.proofs.Common.{drop, take, refl, sym, ap, ◌∙◌, arith, true≢false, ◌+◌, ◌<◌, not, get_or, length, ⊎_elim}
-use Rattle.std.proofs.Common.{subst, ◌&&◌, ◌||◌}
-use Rattle.std.specs.Prelude.{slice_get, slice_index, slice_range}
-use Rattle.std.specs.Str.{IsCharBoundary, IsUtf8}
-use Rattle.std.proofs.lemmas.Option.{same_Some}
-use Rattle.std.proofs.lemmas.List.{length-take, get_or-drop, get_or-take, length-drop}
-use Rattle.std.specs.List.{list_all}
-use Rattle.std.proofs.Math.Bool.{or-true}
-use Rattle.std.proofs.lemmas.Bool.{and_parts, cases_lt}
-use Rattle.std.proofs.lemmas.Bool.Decides.{nat_tests}
-use Rattle.std.proofs.lemmas.Str.{IsCharBoundary-after_ascii}
+use Rattle.std.proofs.Common.{slice_get, slice_index, slice_range, IsCharBoundary, IsUtf8, length-take, get_or-drop}
+use Rattle.std.proofs.Common.{get_or-take, length-drop, drop, take, refl, sym, ap, ◌∙◌, arith, true≢false, ◌+◌, ◌<◌}
+use Rattle.std.proofs.Common.{◌||◌, not, get_or, length, ⊎_elim, ◌&&◌}
+use Rattle.markdown_plain.proofs.Names.{same_Some, list_all, or-true, or-false, or_assoc, cases_lt, or_parts}
+use Rattle.markdown_plain.proofs.Names.{IsCharBoundary-after_ascii, ItemBody, Forest, nil, node, BuilderView, Opens}
+use Rattle.markdown_plain.proofs.Names.{is_table_row, OpenBlock, Shown, unnumbered, LineLeft, HeldLine, Position}
+use Rattle.markdown_plain.proofs.Names.{left_from, Source, SourceLine, is_blank_rest, Block, Kind, is_nil, Around}
+use Rattle.markdown_plain.proofs.Names.{after_line, GoesOn, stepped, MayStep, Frame, inside_container, reached}
+use Rattle.markdown_plain.proofs.Names.{forgotten, IsOpenIn, around_innermost, AreOpen, AllPass, IsLineFrom}
+use Rattle.markdown_plain.proofs.Names.{is_in_blank_line, is_space_or_tab, Line, Pass, IsReadyAfter, leaf_end}
+use Rattle.markdown_plain.proofs.Names.{AreClosable, IsReady, has_quote, is_container, without_leaf, GoesOnBy}
+use Rattle.markdown_plain.proofs.Names.{PlacesLast, LeafKind, part_length, in_part, source_of, Before, IsReachedBy}
+use Rattle.markdown_plain.proofs.Names.{blocks_in, reached_of}
+use Rattle.std.proofs.Math.Bool.{or_comm}
 use Rattle.std.proofs.lemmas.List.Sums.{AllPass-from_list_all}
-use Rattle.markdown_base.specs.declared.item.ItemBody.{ItemBody}
-use Rattle.markdown_base.specs.Forest.{Forest, nil, node}
-use Rattle.markdown_base.specs.declared.tag.HeadingLevel.{HeadingLevel}
 use Rattle.markdown_builder.specs.Bodies.{is_leaf}
-use Rattle.markdown_builder.specs.BuilderView.{BuilderView, Opens}
-use Rattle.markdown_builder.specs.EvenRows.{is_table_row, is_in_row}
-use Rattle.markdown_builder.specs.declared.open_block.OpenBlock.{OpenBlock}
-use Rattle.markdown_builder.specs.Shown.{Shown, chain_of, unnumbered}
-use Rattle.markdown_builder.specs.TreeLevels.{followed_by}
-use Rattle.markdown_items.specs.ContentItems.{content_items}
-use Rattle.markdown_items.specs.LineItems.{item_syntax}
-use Rattle.markdown_scan.specs.LineStart.{LineLeft, leading_space}
-use Rattle.markdown_lines.specs.declared.held_line.HeldLine.{HeldLine}
-use Rattle.markdown_lines.specs.declared.position.Position.{Position}
+use Rattle.markdown_builder.specs.EvenRows.{is_in_row}
 use Rattle.markdown_lines.specs.declared.space.Space.{Space}
-use Rattle.markdown_lines.specs.Positions.{IsSpaceAt, left_from}
-use Rattle.markdown_base.specs.Source.{Source}
-use Rattle.markdown_lines.specs.SourceLines.{SourceLine, is_blank_rest}
-use Rattle.markdown_lines.specs.declared.braces.Braces.{Braces}
-use Rattle.markdown_block_rules.specs.BlockGrowth.{Block, Kind, is_nil}
-use Rattle.markdown_block_rules.specs.BlockRules.{Around, block_end, in_no_item, last_end, shown_block, shown_blocks}
-use Rattle.markdown_block_rules.specs.BlockRules.{shown_heading}
-use Rattle.markdown_plain.specs.CodeLines.{after_line}
-use Rattle.markdown_plain.specs.Fitting.{GoesOn, stepped}
-use Rattle.markdown_plain.specs.Fits.{AreLinesFrom, IsInLeaf, MayAddLine, MayAddAfter, MayAddBefore, MayStep}
-use Rattle.markdown_plain.specs.Fits.{after_lines}
-use Rattle.markdown_plain.specs.Frames.{Frame, inside_container, is_quote as is_quote_kind, reached, reached_past}
-use Rattle.markdown_plain.specs.Frames.{rebuilt}
-use Rattle.markdown_plain.specs.OpenLeaves.{IsOpenIn, is_leaf as is_leaf_kind, leaf_block, IsUnended}
-use Rattle.markdown_plain.specs.OpenedFrames.{around_innermost}
-use Rattle.markdown_lines.specs.Lines.{AllPass, IsLineEnd, IsLineFrom, ending_length, is_in_blank_line, is_line_ending}
-use Rattle.markdown_lines.specs.Lines.{is_space_or_tab}
-use Rattle.markdown_lines.specs.declared.line.Line.{Line}
+use Rattle.markdown_lines.specs.Positions.{IsSpaceAt}
+use Rattle.markdown_plain.specs.Fits.{AreLinesFrom, IsInLeaf, MayAddLine, MayAddAfter, MayAddBefore, after_lines}
+use Rattle.markdown_plain.specs.Frames.{is_quote as is_quote_kind}
+use Rattle.markdown_lines.specs.Lines.{IsLineEnd, ending_length, is_line_ending}
 use Rattle.markdown_lines.proofs.HeldLinesLemmas.{ends_within, line_left}
 use Rattle.markdown_lines.proofs.LinesAheadLemmas.{in_ending}
 use Rattle.markdown_lines.proofs.LinesLemmas.{ending_ascii, AllPass-none}
 use Rattle.markdown_lines.proofs.TitleLemmas.{ending_bytes}
-use Rattle.markdown_plain.specs.declared.pass.Pass.{Pass}
-use Rattle.markdown_plain.specs.Closable.{AreContainers, IsReadyAfter, leaf_end, AreClosable, IsReady, has_quote}
-use Rattle.markdown_plain.specs.Containers.{is_container}
-use Rattle.markdown_plain.specs.OpenBlocks.{is_table, without_leaf}
-use Rattle.markdown_plain.specs.Settled.{AreOpen}
-use Rattle.markdown_plain.specs.Standing.{PlacesLast}
-use Rattle.markdown_base.proofs.ByteListLemmas.{part_length}
-use Rattle.markdown_lines.proofs.PositionsLemmas.{in_part}
-use Rattle.markdown_plain.specs.Paragraphs.{source_of}
-use Rattle.markdown_plain.specs.ReachedLines.{Before, IsReachedBy, blocks_in, reached_of}
+use Rattle.markdown_plain.specs.Closable.{AreContainers}
+use Rattle.markdown_plain.proofs.LinedLeavesLemmas.{cut_within, shown_alone, shown_of_kind}
+use Rattle.markdown_plain.proofs.BegunLemmas.{left_from_is_of}
+use Rattle.markdown_plain.proofs.LeafTreesLemmas.{innermost_of_opened, by_test}
+use Rattle.markdown_plain.proofs.TextReachedLemmas.{by_list, space_within, reached_within, whole_within}
+use Rattle.markdown_plain.proofs.ClosableLemmas.{innermost_no_row, leaf_end_here, no_task, none_ahead, no_paragraph}
+use Rattle.markdown_plain.proofs.ClosableLemmas.{white_both}
+use Rattle.markdown_plain.proofs.FramesLemmas.{as_many_open, on_reached, tests_alike, quote_alike}
+use Rattle.markdown_plain.proofs.OpenTablesLemmas.{without_open, without_closable}
+use Rattle.markdown_plain.proofs.ReachedFramesLemmas.{goes_on_in, indented_alike, note_alike}
+use Rattle.markdown_plain.proofs.OpenListsLemmas.{has_quote as quotes_in}
+use Rattle.markdown_plain.specs.OpenBlocks as own
+use Rattle.markdown_plain.specs.declared.pass.LeafKind.TheVariants as leaf
 use Rattle.markdown_base.specs.declared.item.ItemBody.TheVariants as body
 use Rattle.markdown_block_rules.specs.BlockGrowth as was
 use Rattle.markdown_plain.specs.OpenLeaves as leaves
 use Rattle.markdown_plain.specs.declared.containers.Reached as code
-use Rattle.markdown_plain.proofs.LinedLeavesLemmas.{cut_within}
-use Rattle.markdown_plain.proofs.BegunLemmas.{left_from_is_of}
-use Rattle.markdown_plain.proofs.LeafTreesLemmas.{innermost_of_opened}
-use Rattle.markdown_plain.proofs.TextReachedLemmas.{space_within, reached_within, whole_within}
-use Rattle.markdown_plain.proofs.ClosableLemmas.{innermost_no_row, leaf_end_here, no_task, none_ahead, no_paragraph}
-use Rattle.markdown_plain.proofs.ClosableLemmas.{white_both}
-use Rattle.markdown_plain.proofs.FramesLemmas.{tests_alike, quote_alike}
-use Rattle.markdown_plain.proofs.OpenTablesLemmas.{body_innermost, table_shown, without_built, without_open}
-use Rattle.markdown_plain.proofs.OpenTablesLemmas.{without_closable}
-use Rattle.markdown_plain.proofs.ReachedFramesLemmas.{goes_on_in, indented_alike, note_alike}
-use Rattle.markdown_plain.proofs.OpenListsLemmas.{has_quote as quotes_in}
 
 -- ---- steps
 
 -- inside a block, a step needs no white space
 pub may_step : (view : BuilderView) (to : ℕ) → view.at ≤ to → IsCharBoundary view.text to
     → (view.blocks ≡ [] → ⊥) → MayStep view to
-may_step view to low boundary some =
-    record { ahead = (low, boundary); white = λ none. absurd (some none) }
+may_step view to low boundary some = record { ahead = (low, boundary); white = λ none. absurd (some none) }
 
 -- a block is open after one was opened
 pub some_opened : (blocks outer : List OpenBlock) (block : OpenBlock) → blocks ≡ outer ++ block ∷ [] → blocks ≡ [] → ⊥
@@ -126,12 +94,7 @@ opened_from old first now at b steps opens leaf = opened_at (stepped old at) now
 -- more is appended to the leaf
 pub goes_at : (text : List ℕ) (at to : ℕ) (old new : BuilderView) → GoesOn old new to → IsInLeafAt text at old
     → IsInLeafAt text to new
-goes_at text at to old new goes is =
-    rw goes (record {
-      inside = record { leaf = is.inside.leaf; some = is.inside.some; plain = is.inside.plain };
-      same = is.same;
-      here = refl;
-    })
+goes_at text at to old new goes is = rw goes (search (arith, is))
 
 -- a step ahead of the place fits
 pub step_at : (text : List ℕ) (at to : ℕ) (view : BuilderView) → IsInLeafAt text at view → at ≤ to
@@ -147,11 +110,8 @@ stepped_at text at to old new steps is = goes_at text at to old new (rw steps) i
 -- a line fits into the leaf
 pub line_at : (text : List ℕ) (at from to : ℕ) (view : BuilderView) → IsInLeafAt text at view → at ≤ from
     → IsCharBoundary text from → IsCharBoundary text to → MayAddLine view from to
-line_at text at from to view is low boundary next = record {
-  inside = is.inside;
-  ahead = (omega (arith, is.here, low), rw is.same boundary);
-  next = rw is.same next;
-}
+line_at text at from to view is low boundary next =
+    record { inside = is.inside; ahead = (omega (arith, is.here, low), rw is.same boundary); next = rw is.same next }
 
 -- a line fits that goes on from there
 pub goes_on_fits : (old new : BuilderView) (at from to : ℕ) → GoesOn old new at → IsInLeaf old → at ≤ from
@@ -180,27 +140,19 @@ comes_next text from (first ∷ lines) (suc number) line are e =
 lines_more : (text : List ℕ) (from : ℕ) (lines : List HeldLine) (line : HeldLine) → AreLinesFrom text from lines
     → after_lines from lines ≤ line.start → IsCharBoundary text line.start → IsCharBoundary text line.next
     → AreLinesFrom text from (lines ++ line ∷ [])
-lines_more text from [] line are low boundary next = (low, boundary, next, tt)
+    × (after_lines from (lines ++ line ∷ []) ≡ after_line line.start line.next)
+lines_more text from [] line are low boundary next = ((low, boundary, next, tt), refl)
 lines_more text from (first ∷ lines) line are low boundary next =
     let more = lines_more text (after_line first.start first.next) lines line are.3 low boundary next in
-    (are.0, are.1, are.2, more)
-
-after_more : (from : ℕ) (lines : List HeldLine) (line : HeldLine)
-    → after_lines from (lines ++ line ∷ []) ≡ after_line line.start line.next
-after_more from [] line = refl
-after_more from (first ∷ lines) line = after_more (after_line first.start first.next) lines line
+    ((are.0, are.1, are.2, more.0), more.1)
 
 -- such a line may be held back too
 pub held_fits : (view : BuilderView) (lines : List HeldLine) (line : HeldLine)
     → MayAddAfter view lines line.start line.next → line.start ≤ line.next
     → MayAddBefore view (lines ++ line ∷ []) line.next
-held_fits view lines line may ordered = record {
-  may = record {
-    inside = may.before.may.inside;
-    are = lines_more view.text view.at lines line may.before.may.are may.before.low may.boundary may.next;
-  };
-  low = omega (arith, after_more view.at lines line, ordered);
-}
+held_fits view lines line may ordered =
+    let more = lines_more view.text view.at lines line may.before.may.are may.before.low may.boundary may.next in
+    record { may = record { inside = may.before.may.inside; are = more.0 }; low = omega (arith, more.1, ordered) }
 
 -- ---- space
 
@@ -209,79 +161,48 @@ pub space_ahead : (text : List ℕ) (position : Position) (stop most : ℕ) (rea
     → IsSpaceAt text position stop most read → IsCharBoundary text position.at
     → IsCharBoundary text read.after.at × (position.at ≤ read.after.at)
 space_ahead text position stop most read utf8 is boundary =
-    let within = space_within text position.at utf8 most (left_from text position stop)
-    (record { own = left_from_is_of text position stop _ refl; boundary = boundary; low = omega arith }) in
-    let same : (leading_space most (left_from text position stop)).after.scanned ≡ read.after.at =
-    ap (λ (left : LineLeft). left.scanned) (sym is.after) in
-    (rw same at within.boundary, rw same at within.low)
+    let within = rw (← is.after) at (space_within text position.at utf8 most (left_from text position stop)
+    (record { own = left_from_is_of text position stop _ refl; boundary = boundary; low = omega arith })) in
+    (within.boundary, within.low)
 
 -- it ends in its line
 pub space_stops : (text : List ℕ) (position : Position) (stop most : ℕ) (read : Space)
     → IsSpaceAt text position stop most read → position.at ≤ stop → read.after.at ≤ stop
 space_stops text position stop most read is within =
     let l : SourceLine = record { left = left_from text position stop; next = stop; outermost = true; indent = None } in
-    let same : read.after.at ≡ (leading_space most (left_from text position stop)).after.scanned =
-    ap (λ (left : LineLeft). left.scanned) is.after in
-    omega (arith, cut_within most l, same, length-take (stop - position.at) (drop position.at text), within)
+    let cut = rw (← is.after) at (cut_within most l) in
+    omega (arith, cut, length-take (stop - position.at) (drop position.at text), within)
 
 -- ---- leaves that are open
 
 -- the first of some trees is a row
-first_is_row : Forest Shown → Bool
+abbrev first_is_row : Forest Shown → Bool
 first_is_row nil = false
 first_is_row (node a below after) = is_table_row a.item.body
 
-heading_is_no_row : (s : Source) (start end : ℕ) (level : HeadingLevel) (braces : Option Braces)
-    (below : Forest Shown) → first_is_row (shown_heading s start end level braces below) ≡ false
-unfolding first_is_row
-heading_is_no_row s start end level None below = refl
-heading_is_no_row s start end level (Some braces) below = refl
-
 -- no leaf is shown as a row
-block_is_no_row : (s : Source) (around : Around) (b : Block) (end : ℕ) (below : Forest Block)
-    (inside : Around → Forest Shown) (kind : Kind) → is_leaf_kind kind ≡ true
-    → first_is_row (shown_block s around b end below inside kind) ≡ false
-unfolding first_is_row
-block_is_no_row s around b end below inside (was.heading_leaf found) leaf =
-    heading_is_no_row s b.start end found.level found.braces
-    (chain_of (content_items s.text (item_syntax s.syntax) found.from found.to))
-block_is_no_row s around b end below inside was.break_leaf leaf = refl
-block_is_no_row s around b end below inside (was.indented_leaf lines) leaf = refl
-block_is_no_row s around b end below inside (was.fenced_leaf opening closed lines) leaf = refl
-block_is_no_row s around b end below inside (was.html_leaf kind closed lines) leaf = refl
-block_is_no_row s around b end below inside (was.metadata_leaf kind closed lines) leaf = refl
-block_is_no_row s around b end below inside (was.table_leaf ended head alignments rows) leaf = refl
-block_is_no_row s around b end below inside other leaf = absurd (true≢false (sym leaf))
-
-before_nothing : (trees : Forest Shown) → first_is_row (followed_by trees nil) ≡ first_is_row trees
-unfolding first_is_row
-before_nothing nil = refl
-before_nothing (node a below after) = refl
-
-blocks_are_no_row : (s : Source) (around : Around) (b : Block) → is_leaf_kind b.kind ≡ true
-    → first_is_row (shown_blocks s around (leaf_block b)) ≡ false
-unfolding shown_blocks
-blocks_are_no_row s around b leaf =
-    before_nothing (shown_block s around b (block_end b (last_end b.first nil) b.kind) nil
-    (λ inside. shown_blocks s inside nil) b.kind)
-    ∙ block_is_no_row s around b (block_end b (last_end b.first nil) b.kind) nil
-    (λ inside. shown_blocks s inside nil) b.kind leaf
+leaf_shown_no_row : (s : Source) (around : Around) (b : Block) (how : LeafKind) (kind : Kind) → GoesOnBy how kind
+    → first_is_row (shown_of_kind s around b kind) ≡ false
+leaf_shown_no_row s around b leaf.Indented (was.indented_leaf lines) known = refl
+leaf_shown_no_row s around b (leaf.Fenced fence) (was.fenced_leaf opening closed lines) known = refl
+leaf_shown_no_row s around b (leaf.Html found) (was.html_leaf kind closed lines) known = refl
+leaf_shown_no_row s around b (leaf.Metadata found) (was.metadata_leaf kind closed lines) known = refl
+leaf_shown_no_row s around b how (was.table_leaf ended head alignments rows) known = refl
+leaf_shown_no_row s around b how other known = absurd known
 
 same_row : (b : ItemBody) → is_table_row (unnumbered b) ≡ is_table_row b
 same_row (body.Heading level None) = refl
 same_row (body.Heading level (Some ix)) = refl
 same_row other = refl
 
--- where a leaf is open in the innermost container, items fit
-pub open_in_leaf : (s : Source) (view : BuilderView) (frames : List Frame) (inside : Forest Block) (b : Block)
-    → is_leaf_kind b.kind ≡ true → IsOpenIn s view frames inside true b → IsInLeaf view
-unfolding first_is_row
-open_in_leaf s view frames inside b leaf is = record {
-  leaf = is.leaf;
-  some = some_opened view.blocks is.outer is.block is.blocks;
-  plain = rw (is.blocks, innermost_of_opened) (sym (same_row is.block.body) ∙ (ap first_is_row is.shown
-      ∙ blocks_are_no_row s (around_innermost in_no_item frames) b leaf));
-}
+-- so an open leaf is none
+no_row_open : (s : Source) (view : BuilderView) (frames : List Frame) (inside : Forest Block) (in_leaf : Bool)
+    (b : Block) (how : LeafKind) → GoesOnBy how b.kind → IsOpenIn s view frames inside in_leaf b
+    → is_in_row view.blocks ≡ false
+no_row_open s view frames inside in_leaf b how known is =
+    let around = around_innermost frames in
+    rw (is.blocks, innermost_of_opened) (sym (same_row is.block.body)
+    ∙ (ap first_is_row (is.shown ∙ shown_alone s around b b.kind refl) ∙ leaf_shown_no_row s around b how b.kind known))
 
 -- ---- where a line ends
 
@@ -290,359 +211,55 @@ pub ending_white : (text : List ℕ) (at : ℕ) (line : Line) → IsLineFrom tex
     → AllPass is_in_blank_line text line.stop line.next
 ending_white text at line is = λ k more high.
     let place : line.stop + (k - line.stop) ≡ k = omega (arith, more) in
-    let there = get_or-drop line.stop text (k - line.stop) 0 in
-    let ends = in_ending (drop line.stop text) (k - line.stop) (omega (arith, more, high, is.ends)) in
-    let here : is_line_ending (get_or text k 0) ≡ true = rw place at (rw there at ends) in
-    rw here (or-true (is_space_or_tab (get_or text k 0)))
-
-byte_passes : (test : ℕ → Bool) (bytes : List ℕ) (at : ℕ) → list_all test bytes ≡ true → at < length bytes
-    → test (get_or bytes at 0) ≡ true
-byte_passes test [] at all less = absurd (omega (arith, less))
-byte_passes test (b ∷ bytes) zero all less = (and_parts (test b) (list_all test bytes) all).0
-byte_passes test (b ∷ bytes) (suc at) all less =
-    byte_passes test bytes at (and_parts (test b) (list_all test bytes) all).1 (omega (arith, less))
+    rw (rw (get_or-drop line.stop text (k - line.stop) 0, place) at (in_ending (drop line.stop text) (k - line.stop)
+    (omega (arith, more, high, is.ends)))) (or-true (is_space_or_tab (get_or text k 0)))
 
 -- the content of a line ends between characters
 pub stop_between : (text : List ℕ) (from stop : ℕ) → IsLineEnd text from stop → IsCharBoundary text stop
-stop_between text from stop ends = (
-  ends.high,
-  λ less high.
-      let ending = ends.stops less in
-      let ascii : slice_index text stop < 128 = grind (arith, nat_tests, ending) in
-      absurd (omega (arith, ascii, high)),
-)
+stop_between text from stop ends =
+    (ends.high, λ less high. absurd (omega (arith, ending_ascii (slice_index text stop) (ends.stops less), high)))
 
 -- and so does the line, with its line ending
 pub next_between : (text : List ℕ) (from : ℕ) (line : Line) → IsUtf8 text → IsLineFrom text from line
     → IsCharBoundary text line.next
 next_between text from line utf8 is =
-    let rest = drop line.stop text in
-    let n = ending_length rest in
+    let rest = drop line.stop text in let n = ending_length rest in
     ⊎_elim (λ (some : 0 < n).
     let few = ends_within rest in
     let passes = ending_bytes rest (line_left text line.stop is.content.high is.content.stops) in
-    let last = byte_passes is_line_ending (take n rest) (n - 1) passes (omega (arith, some, few, length-take n rest)) in
-    let byte : get_or (take n rest) (n - 1) 0 ≡ get_or text (line.stop + (n - 1)) 0 =
-    get_or-take n rest (n - 1) 0 (omega (arith, some)) ∙ get_or-drop line.stop text (n - 1) 0 in
-    let ascii = ending_ascii (get_or (take n rest) (n - 1) 0) last in
+    let ascii = ending_ascii (get_or (take n rest) (n - 1) 0) (AllPass-from_list_all is_line_ending (take n rest) passes
+    (n - 1) 0 (omega (arith, some, few, length-take n rest))) in
     let place : (line.stop + (n - 1)) + 1 ≡ line.next = omega (arith, some, is.ends) in
-    subst (IsCharBoundary text) place (IsCharBoundary-after_ascii text (line.stop + (n - 1)) utf8
-    (omega (arith, some, few, length-drop line.stop text, is.content.high)) (omega (arith, ascii, byte))))
-    (λ (none : n ≤ 0). subst (IsCharBoundary text) (omega (arith, none, is.ends))
-    (stop_between text from line.stop is.content)) (cases_lt 0 n)
+    rw (← place) (IsCharBoundary-after_ascii text (line.stop + (n - 1)) utf8
+    (omega (arith, some, few, length-drop line.stop text, is.content.high))
+    (omega (arith, ascii, get_or-take n rest (n - 1) 0, get_or-drop line.stop text (n - 1) 0, some))))
+    (λ (none : n ≤ 0).
+    let same : line.next ≡ line.stop = omega (arith, none, is.ends) in
+    rw same (stop_between text from line.stop is.content)) (cases_lt 0 n)
 
 -- ---- open containers
 
 -- open blocks that are these containers have the bodies of containers
 pub are_bodies : (texts : List (List ℕ)) (blocks : List OpenBlock) (frames : List Frame) → AreOpen texts blocks frames
     → AreContainers blocks
-are_bodies texts [] frames are = tt
-are_bodies texts (block ∷ blocks) [] are = absurd are
-are_bodies texts (block ∷ blocks) (f ∷ frames) are = (
-  tests_alike is_container (λ kind. true) refl (λ kind. refl) (λ marker. refl) (λ indent. refl) (λ ix label. refl)
-      texts f.block.kind block.body are.0.body,
-  are_bodies texts blocks frames are.1,
-)
+are_bodies texts blocks [] none = rw none tt
+are_bodies texts blocks (f ∷ outer) (block, others, are, is, around) =
+    rw are (containers_with others block (are_bodies texts others outer around)
+    (tests_alike is_container (λ kind. true) refl (λ kind. refl) (λ marker. refl) (λ indent. refl) (λ ix label. refl)
+    texts f.block.kind block.body is.body))
+  where
+    containers_with : (others : List OpenBlock) (block : OpenBlock) → AreContainers others
+        → is_container block.body ≡ true → AreContainers (others ++ block ∷ [])
+    containers_with [] block are is = (is, tt)
+    containers_with (first ∷ others) block are is = (are.0, containers_with others block are.1 is)
 
 -- and where none are open, there are none of them
 pub no_frames : (texts : List (List ℕ)) (blocks : List OpenBlock) (frames : List Frame) → AreOpen texts blocks frames
     → blocks ≡ [] → frames ≡ []
-no_frames texts [] [] are none = refl
-no_frames texts [] (f ∷ frames) are none = absurd are
-no_frames texts (block ∷ blocks) frames are none = absurd (omega (arith, ap length none))
-
--- an open leaf is no row
-no_row_open : (s : Source) (view : BuilderView) (frames : List Frame) (inside : Forest Block) (b : Block)
-    → is_leaf_kind b.kind ≡ true → IsOpenIn s view frames inside (not (leaves.is_table b.kind)) b
-    → is_in_row view.blocks ≡ false
-no_row_open s view frames inside b leaf is = decided (leaves.is_table b.kind) refl
-  where
-    no_row : (b : ItemBody) → is_table b ≡ true → is_table_row b ≡ false
-    no_row (body.Table ix) table = refl
-    no_row other table = absurd (true≢false (sym table))
-
-    decided : (table : Bool) → leaves.is_table b.kind ≡ table → is_in_row view.blocks ≡ false
-    decided true table =
-        body_innermost s view frames inside b (not (leaves.is_table b.kind)) is_table_row is ∙ no_row is.block.body
-        (table_shown s view frames inside b (not (leaves.is_table b.kind)) b.kind refl table is)
-    decided false other = (open_in_leaf s view frames inside b leaf (rw other at is)).plain
+no_frames texts blocks frames are none = by_list frames (λ same. same)
+    (λ f outer some. absurd (omega (arith, as_many_open texts blocks frames are, ap length none, ap length some)))
 
 -- ---- nothing is held back
-
--- A line was placed up to a byte offset: a leaf is open, or none, inside containers, and no lines are held back.
-pub record IsLeftAt (pass : Pass) (to : ℕ) : Type 0 where
-  pub lines : pass.lines.items ≡ []
-  pub blanks : pass.blanks.items ≡ []
-  pub at : pass.placing.builder.at ≡ to
-  pub boundary : IsCharBoundary pass.placing.builder.text to
-  pub containers : AreContainers (without_leaf pass.placing.builder)
-  pub leaf : pass.placing.builder.leaf ≡ true → IsInLeaf pass.placing.builder
-  pub plain : is_in_row pass.placing.builder.blocks ≡ false
-
--- the next line may be read
-pub ready_after : (pass : Pass) (to : ℕ) → IsLeftAt pass to → IsReadyAfter pass to
-ready_after pass to is =
-    let view = pass.placing.builder in
-    let here : leaf_end pass ≡ to = leaf_end_here pass is.lines ∙ is.at in
-    record {
-      closable = record {
-        some = λ leaf. (is.leaf leaf).some;
-        other = is.plain;
-        held = λ outside. none_ahead view pass.lines.items is.lines;
-        task = no_task view.text pass.task pass.lines.items is.lines;
-        containers = is.containers;
-        alone = λ has. absurd (true≢false (sym has ∙ no_paragraph pass is.lines));
-        low = omega (arith, here);
-        boundary = is.boundary;
-        white = λ e at low high. absurd (omega (arith, here, low, high));
-      };
-      low = omega arith;
-      boundary = is.boundary;
-      white = λ at low high. absurd (omega (arith, low, high));
-      blanks = λ leaf. rw is.blanks
-          (record { may = record { inside = is.leaf leaf; are = tt }; low = omega (arith, is.at) });
-    }
-
--- so it is where the last block is ended, or is an open leaf
-pub ready_last : (s : Source) (pass : Pass) (frames : List Frame) (inside : Forest Block) (last : Option Block) (to : ℕ)
-    → PlacesLast s pass frames inside last → pass.lines.items ≡ [] → pass.blanks.items ≡ []
-    → pass.placing.builder.at ≡ to → IsCharBoundary pass.placing.builder.text to → IsReadyAfter pass to
-ready_last s pass frames inside None to places lines blanks at boundary =
-    let view = pass.placing.builder in
-    let built = places.0.built in
-    let are = are_bodies view.texts view.blocks frames built.blocks in
-    ready_after pass to (record {
-      lines = lines;
-      blanks = blanks;
-      at = at;
-      boundary = boundary;
-      containers = rw (without_built s view frames inside built) are;
-      leaf = λ leaf. absurd (true≢false (sym leaf ∙ built.outside));
-      plain = innermost_no_row view.blocks are;
-    })
-ready_last s pass frames inside (Some b) to places lines blanks at boundary = by_held places.0 places.1
-  where
-    by_held : (held : Option (List SourceLine)) → IsUnended s pass frames inside b held → IsReadyAfter pass to
-    by_held None is =
-        let view = pass.placing.builder in
-        ready_after pass to (record {
-          lines = lines;
-          blanks = blanks;
-          at = at;
-          boundary = boundary;
-          containers = rw (without_open s view frames inside b is.1)
-              (are_bodies view.texts is.1.outer frames is.1.around.blocks);
-          leaf = λ leaf. open_in_leaf s view frames inside b is.0
-              (subst (λ in_leaf. IsOpenIn s view frames inside in_leaf b) (sym is.1.leaf ∙ leaf) is.1);
-          plain = no_row_open s view frames inside b is.0 is.1;
-        })
-    by_held (Some sources) is = absurd (omega (arith, is.some, ap length lines))
-
--- ---- a line
-
--- a line of the text that the pass reads ends between characters
-pub stop_read : {text : List ℕ} {s : Source} (pass : Pass) (line : Line) → text ≡ s.text → source_of pass ≡ s
-    → IsLineFrom pass.placing.builder.text line.start line → IsCharBoundary text line.stop
-stop_read {text} {s} pass line same source is =
-    let here : pass.placing.builder.text ≡ text = ap (λ (s : Source). s.text) source ∙ sym same in
-    rw here at (stop_between pass.placing.builder.text line.start line.stop is.content)
-
--- a line is white space, with its ending, where its content is
-white_line : (text : List ℕ) (line : Line) → IsLineFrom text line.start line
-    → list_all is_space_or_tab (slice_range text line.start line.stop) ≡ true
-    → AllPass is_in_blank_line text line.start line.next
-white_line text line is white = λ k low high.
-    ⊎_elim (λ (less : k < line.stop).
-    let bytes = slice_range text line.start line.stop in
-    let inside : k - line.start < length bytes =
-    omega (arith, part_length text line.start line.stop is.content.high, low, less) in
-    let place : line.start + (k - line.start) ≡ k = omega (arith, low) in
-    let there = in_part text bytes line.start line.stop (k - line.start) refl inside in
-    let passes = AllPass-from_list_all is_space_or_tab bytes white (k - line.start) 0 inside in
-    let here : is_space_or_tab (get_or text k 0) ≡ true = rw place at (rw there.byte at passes) in
-    rw here refl) (λ (more : line.stop ≤ k). ending_white text line.start line is k more high) (cases_lt k line.stop)
-
--- ---- places in a line
-
--- a byte offset is in a line, between characters
-pub record IsPlaceIn (text : List ℕ) (line : Line) (at : ℕ) : Type 0 where
-  pub low : line.start ≤ at
-  pub high : at ≤ line.stop
-  pub boundary : IsCharBoundary text at
-  pub ends : line.stop ≤ line.next
-  pub next : IsCharBoundary text line.next
-
--- the place is in the line that what is left of it begins at
-pub place_reached : (s : Source) (old : Pass) (line : Line) (found : code.Reached) (before : Before)
-    (source : SourceLine) → IsReachedBy s old line found before source
-    → IsPlaceIn old.placing.builder.text line found.position.at
-place_reached s old line found before source by =
-    let text = old.placing.builder.text in
-    let within = reached_within text line.start by.is.utf8 s before.frames (blocks_in before) source
-    (whole_within old line source by.is) in
-    let same : found.position.at ≡ (reached_of s before source).rest.left.scanned =
-    ap (λ (left : LineLeft). left.scanned) by.reaches.rest.left in
-    record {
-      low = omega (arith, same, within.low);
-      high = omega (arith, same, by.reaches.stop);
-      boundary = rw same within.boundary;
-      ends = omega (arith, by.is.from.ends);
-      next = next_between text line.start line by.is.utf8 by.is.from;
-    }
-
--- so is its beginning
-pub place_first : (s : Source) (old : Pass) (line : Line) (found : code.Reached) (before : Before) (source : SourceLine)
-    → IsReachedBy s old line found before source → IsPlaceIn old.placing.builder.text line line.start
-place_first s old line found before source by =
-    let reached = place_reached s old line found before source by in
-    let high : line.start ≤ line.stop = omega (arith, reached.low, reached.high) in
-    let low : line.start ≤ line.start = omega arith in assumption (low, high, by.is.boundary, reached)
-
--- and the place after white space
-pub place_after_space : (text : List ℕ) (line : Line) (position : Position) (most : ℕ) (read : Space) → IsUtf8 text
-    → IsSpaceAt text position line.stop most read → IsPlaceIn text line position.at → IsPlaceIn text line read.after.at
-place_after_space text line position most read utf8 is place =
-    let ahead = space_ahead text position line.stop most read utf8 is place.boundary in
-    let low : line.start ≤ read.after.at = omega (arith, place.low, ahead.1) in
-    assumption (low, space_stops text position line.stop most read is place.high, ahead.0, place)
-
--- ---- lines in the open leaf
-
--- where a leaf is open, it ends here
-open_leaf_end : (pass : Pass) → pass.placing.builder.leaf ≡ true → leaf_end pass ≡ pass.placing.builder.at
-open_leaf_end pass leaf = rw leaf refl
-
--- items fit into it
-leaf_fits : (pass : Pass) (from : ℕ) → IsReady pass from → pass.placing.builder.leaf ≡ true
-    → IsInLeaf pass.placing.builder
-leaf_fits pass from ready leaf =
-    record { leaf = leaf; some = ready.closable.some leaf; plain = ready.closable.other }
-
--- and the rest of the next line
-pub line_fits : (pass : Pass) (line : Line) (at : ℕ) → IsReady pass line.start → pass.placing.builder.leaf ≡ true
-    → IsPlaceIn pass.placing.builder.text line at → MayAddLine pass.placing.builder at line.next
-line_fits pass line at ready leaf place = record {
-  inside = leaf_fits pass line.start ready leaf;
-  ahead = (omega (arith, open_leaf_end pass leaf, ready.closable.low, ready.low, place.low), place.boundary);
-  next = place.next;
-}
-
--- after the lines that were held back too
-pub line_fits_after : (pass : Pass) (line : Line) (at : ℕ) → IsReady pass line.start → pass.placing.builder.leaf ≡ true
-    → IsPlaceIn pass.placing.builder.text line at → MayAddAfter pass.placing.builder pass.blanks.items at line.next
-line_fits_after pass line at ready leaf place =
-    let held = ready.blanks leaf in
-    record {
-      before = record { may = held.may; low = omega (arith, held.low, place.low) };
-      boundary = place.boundary;
-      next = place.next;
-    }
-
--- ---- blank lines
-
-quotes_alike : (texts : List (List ℕ)) (blocks : List OpenBlock) (frames : List Frame) → AreOpen texts blocks frames
-    → has_quote blocks ≡ quotes_in frames
-quotes_alike texts [] [] are = refl
-quotes_alike texts [] (f ∷ frames) are = absurd are
-quotes_alike texts (block ∷ blocks) [] are = absurd are
-quotes_alike texts (block ∷ blocks) (f ∷ frames) are =
-    rw (quote_alike texts f.block.kind block.body are.0.body, quotes_alike texts blocks frames are.1) refl
-
--- what a container other than a block quote leaves of a line is as blank as the line
-taken_alike : (s : Source) (l m : SourceLine) (empty : Bool) (kind : Kind) → is_quote_kind kind ≡ false
-    → inside_container s l empty kind ≡ Some m → is_blank_rest m ≡ is_blank_rest l
-taken_alike s l m empty was.quote_container plain takes = absurd (true≢false plain)
-taken_alike s l m empty (was.alert_container kind) plain takes = absurd (true≢false plain)
-taken_alike s l m empty (was.item_container indent) plain takes =
-    indented_alike l m indent (goes_on_in (is_blank_rest l && empty) _ m takes)
-taken_alike s l m empty (was.footnote_container label) plain takes =
-    note_alike l m (not s.syntax.old_footnotes) (goes_on_in (is_blank_rest l && s.syntax.old_footnotes) _ m takes)
-taken_alike s l m empty other plain takes = ap is_blank_rest (sym (same_Some l m takes))
-
--- so is what is left where no block quote goes on
-unquoted_alike : (s : Source) (frames : List Frame) (inside : Forest Block) (l : SourceLine)
-    → quotes_in (reached s frames inside l).outer ≡ false
-    → is_blank_rest (reached s frames inside l).rest ≡ is_blank_rest l
-unfolding reached
-unquoted_alike s [] inside l none = refl
-unquoted_alike s (f ∷ frames) inside l none =
-    past (inside_container s l (is_nil (rebuilt frames inside)) f.block.kind) refl
-    (λ m plain. unquoted_alike s frames inside m plain) none
-  where
-    first : (a b : Bool) → (a || b) ≡ false → a ≡ false
-    first true b e = e
-    first false b e = refl
-
-    second : (a b : Bool) → (a || b) ≡ false → b ≡ false
-    second true b e = absurd (true≢false e)
-    second false b e = e
-
-    past : (rest : Option SourceLine) → inside_container s l (is_nil (rebuilt frames inside)) f.block.kind ≡ rest
-        → ((m : SourceLine) → quotes_in (reached s frames inside m).outer ≡ false
-        → is_blank_rest (reached s frames inside m).rest ≡ is_blank_rest m)
-        → quotes_in (reached_past f frames l (reached s frames inside) rest).outer ≡ false
-        → is_blank_rest (reached_past f frames l (reached s frames inside) rest).rest ≡ is_blank_rest l
-    past None takes alike none = refl
-    past (Some m) takes alike none =
-        let kind = is_quote_kind f.block.kind in
-        let others = quotes_in (reached s frames inside m).outer in
-        alike m (second kind others none)
-        ∙ taken_alike s l m (is_nil (rebuilt frames inside)) f.block.kind (first kind others none) takes
-
--- the byte offset up to which lines are not blank moves past a blank line, or stays
-pub record SeesBlank (old : Pass) (line : Line) (source : SourceLine) (placed : ℕ) : Type 0 where
-  pub moves : is_blank_rest source ≡ false → placed ≡ line.next
-  pub stays : is_blank_rest source ≡ true → placed ≡ old.placed
-
--- it moves over white space where no block quote is open, and there is white space after it
-pub record MovesOver (text : List ℕ) (blocks : List OpenBlock) (from placed to : ℕ) : Type 0 where
-  pub low : from ≤ placed
-  pub high : placed ≤ to
-  pub boundary : IsCharBoundary text placed
-  pub next : IsCharBoundary text to
-  pub before : has_quote blocks ≡ false → AllPass is_in_blank_line text from placed
-  pub after : AllPass is_in_blank_line text placed to
-
-pub blank_moves : (s : Source) (old : Pass) (line : Line) (found : code.Reached) (before : Before)
-    (source : SourceLine) (placed : ℕ) (texts : List (List ℕ)) (blocks : List OpenBlock)
-    → IsReachedBy s old line found before source → is_blank_rest (reached_of s before source).rest ≡ true
-    → SeesBlank old line source placed → AreOpen texts blocks (reached_of s before source).outer
-    → MovesOver old.placing.builder.text blocks old.placed placed line.next
-blank_moves s old line found before source placed texts blocks by blank sees are =
-    by_white (is_blank_rest source) refl
-  where
-    text : List ℕ
-    text = old.placing.builder.text
-
-    next : IsCharBoundary text line.next
-    next = next_between text line.start line by.is.utf8 by.is.from
-
-    place : IsPlaceIn text line line.start
-    place = place_first s old line found before source by
-
-    by_white : (white : Bool) → is_blank_rest source ≡ white
-        → MovesOver old.placing.builder.text blocks old.placed placed line.next
-    by_white true is =
-        let ready = by.stands.ready in
-        let bytes = ap (λ (left : LineLeft). list_all is_space_or_tab left.bytes) by.is.left ∙ is in
-        rw (sees.stays is) (record {
-          low = omega arith;
-          high = omega (arith, ready.low, place.high, place.ends);
-          boundary = ready.closable.boundary;
-          next = next;
-          before = λ none. AllPass-none is_in_blank_line text old.placed;
-          after = white_both text old.placed line.start line.next ready.white (white_line text line by.is.from bytes);
-        })
-    by_white false is =
-        rw (sees.moves is) (record {
-          low = omega (arith, by.stands.ready.low, place.high, place.ends);
-          high = omega arith;
-          boundary = next;
-          next = next;
-          before = λ none. absurd (true≢false (sym blank ∙ (unquoted_alike s before.frames (blocks_in before) source
-              (sym (quotes_alike texts blocks (reached_of s before source).outer are) ∙ none) ∙ is)));
-          after = AllPass-none is_in_blank_line text line.next;
-        })
 
 -- no leaf is open, no lines are held back, and what is open may be closed
 pub record IsRead (pass : Pass) (to : ℕ) : Type 0 where
@@ -654,8 +271,7 @@ pub record IsRead (pass : Pass) (to : ℕ) : Type 0 where
 
 pub read_ready : (pass : Pass) (to : ℕ) → IsRead pass to → IsReady pass to
 read_ready pass to is =
-    let view = pass.placing.builder in
-    let without = without_closable view is.closable.outside is.closable.containers in
+    let view = pass.placing.builder in let without = without_closable view is.closable.outside is.closable.containers in
     let here = leaf_end_here pass is.lines in
     record {
       closable = record {
@@ -675,26 +291,222 @@ read_ready pass to is =
       blanks = λ leaf. absurd (true≢false (sym leaf ∙ is.closable.outside));
     }
 
+-- a line was placed up to a byte offset, and the last block is ended, or is an open leaf: the next line may be read
+pub ready_last : (s : Source) (pass : Pass) (frames : List Frame) (inside : Forest Block) (last : Option Block) (to : ℕ)
+    → PlacesLast s pass frames inside last → pass.lines.items ≡ [] → pass.blanks.items ≡ []
+    → pass.placing.builder.at ≡ to → IsCharBoundary pass.placing.builder.text to → IsReadyAfter pass to
+ready_last s pass frames inside None to places lines blanks at boundary =
+    let view = pass.placing.builder in let over = AllPass-none is_in_blank_line view.text to in
+    let low : view.at ≤ to = omega (arith, at) in let here : to ≤ to = omega arith in
+    let white : has_quote view.blocks ≡ false → AllPass is_in_blank_line view.text view.at to = λ none. rw at over in
+    let are = are_bodies view.texts view.blocks frames places.0.built.blocks in
+    read_ready (record pass { placed = to }) to
+    (assumption (places.0.built.outside, are, low, boundary, white, lines, here, over))
+ready_last s pass frames inside (Some b) to (Some sources, is, knows) lines blanks at boundary =
+    absurd (omega (arith, is.some, ap length lines))
+ready_last s pass frames inside (Some b) to (None, is, knows) lines blanks at boundary =
+    let view = pass.placing.builder in let over = AllPass-none is_in_blank_line view.text to in
+    let here : leaf_end pass ≡ to = leaf_end_here pass lines ∙ at in
+    let some = some_opened view.blocks is.1.outer is.1.block is.1.blocks in
+    let plain = no_row_open s view frames inside (not (leaves.is_table b.kind)) b pass.leaf knows.0 is.1 in
+    record {
+      closable = record {
+        some = λ leaf. some;
+        other = plain;
+        held = λ outside. none_ahead view pass.lines.items lines;
+        task = no_task view.text pass.task pass.lines.items lines;
+        containers = rw (without_open s view frames inside b is.1)
+            (are_bodies view.texts is.1.outer frames is.1.around.blocks);
+        alone = λ has. absurd (true≢false (sym has ∙ no_paragraph pass lines));
+        low = omega (arith, here);
+        boundary = boundary;
+        white = λ none. rw here over;
+      };
+      low = omega arith;
+      boundary = boundary;
+      white = over;
+      blanks = λ leaf. rw blanks (record {
+        may = record { inside = record { leaf = leaf; some = some; plain = plain }; are = tt };
+        low = omega (arith, at);
+      });
+    }
+
+-- ---- a line
+
+-- a line of the text that the pass reads ends between characters
+pub stop_read : {text : List ℕ} {s : Source} (pass : Pass) (line : Line) → text ≡ s.text → source_of pass ≡ s
+    → IsLineFrom pass.placing.builder.text line.start line → IsCharBoundary text line.stop
+stop_read {text} {s} pass line same source is =
+    let here : pass.placing.builder.text ≡ text = ap (λ (s : Source). s.text) source ∙ sym same in
+    rw here at (stop_between pass.placing.builder.text line.start line.stop is.content)
+
+-- where a number of bytes of a part of a text are white space, they are so in the text
+pub part_white : (text bytes : List ℕ) (from stop n : ℕ) → bytes ≡ slice_range text from stop → n ≤ length bytes
+    → ((i : ℕ) → i < n → is_space_or_tab (get_or bytes i 0) ≡ true) → AllPass is_in_blank_line text from (from + n)
+part_white text bytes from stop n are few passes = λ k low high.
+    let inside : k - from < n = omega (arith, low, high) in let place : from + (k - from) ≡ k = omega (arith, low) in
+    let byte = rw place at (in_part text bytes from stop (k - from) are (omega (arith, inside, few))).byte in
+    let white = rw byte at (passes (k - from) inside) in rw white refl
+
+-- a line is white space, with its ending, where its content is
+white_line : (text : List ℕ) (line : Line) → IsLineFrom text line.start line
+    → list_all is_space_or_tab (slice_range text line.start line.stop) ≡ true
+    → AllPass is_in_blank_line text line.start line.next
+white_line text line is white =
+    let bytes = slice_range text line.start line.stop in
+    let stop : line.start + length bytes ≡ line.stop =
+    omega (arith, part_length text line.start line.stop is.content.high, is.content.low) in
+    let content = rw stop at (part_white text bytes line.start line.stop (length bytes) refl (omega arith)
+    (λ i less. AllPass-from_list_all is_space_or_tab bytes white i 0 less)) in
+    white_both text line.start line.stop line.next content (ending_white text line.start line is)
+
+-- ---- places in a line
+
+-- a byte offset is in a line, between characters
+pub record IsPlaceIn (text : List ℕ) (line : Line) (at : ℕ) : Type 0 where
+  pub low : line.start ≤ at
+  pub high : at ≤ line.stop
+  pub boundary : IsCharBoundary text at
+  pub ends : line.stop ≤ line.next
+  pub next : IsCharBoundary text line.next
+
+module _ (s : Source) (old : Pass) (line : Line) (found : code.Reached) (before : Before) (source : SourceLine)
+    (by : IsReachedBy s old line found before source) where
+  -- the place is in the line that what is left of it begins at
+  pub place_reached : IsPlaceIn old.placing.builder.text line found.position.at
+  place_reached =
+      let text = old.placing.builder.text in
+      let within = rw (← by.reaches.rest.left) at (reached_within text line.start by.is.utf8 s before.frames
+      (blocks_in before) source (whole_within old line source by.is)) in
+      let same = ap (λ (left : LineLeft). left.scanned) by.reaches.rest.left in
+      let high : found.position.at ≤ line.stop = omega (arith, same, by.reaches.stop) in
+      let ends : line.stop ≤ line.next = omega (arith, by.is.from.ends) in
+      assumption (within, high, ends, next_between text line.start line by.is.utf8 by.is.from)
+
+  -- so is its beginning
+  pub place_first : IsPlaceIn old.placing.builder.text line line.start
+  place_first =
+      let high : line.start ≤ line.stop = omega (arith, place_reached) in
+      let low : line.start ≤ line.start = omega arith in assumption (low, high, by.is.boundary, place_reached)
+
+-- and the place after white space
+pub place_after_space : (text : List ℕ) (line : Line) (position : Position) (most : ℕ) (read : Space) → IsUtf8 text
+    → IsSpaceAt text position line.stop most read → IsPlaceIn text line position.at → IsPlaceIn text line read.after.at
+place_after_space text line position most read utf8 is place =
+    let ahead = space_ahead text position line.stop most read utf8 is place.boundary in
+    let low : line.start ≤ read.after.at = omega (arith, place.low, ahead.1) in
+    assumption (low, space_stops text position line.stop most read is place.high, ahead.0, place)
+
+-- ---- lines in the open leaf
+
+module _ (pass : Pass) (line : Line) (at : ℕ) (ready : IsReady pass line.start)
+    (leaf : pass.placing.builder.leaf ≡ true) (place : IsPlaceIn pass.placing.builder.text line at) where
+  -- the rest of the next line fits into it
+  pub line_fits : MayAddLine pass.placing.builder at line.next
+  line_fits =
+      let end : leaf_end pass ≡ pass.placing.builder.at = rw leaf refl in
+      let low : pass.placing.builder.at ≤ at = omega (arith, end, ready.closable.low, ready.low, place.low) in
+      assumption (leaf, ready.closable.some leaf, ready.closable.other, low, place)
+
+  -- after the lines that were held back too
+  pub line_fits_after : MayAddAfter pass.placing.builder pass.blanks.items at line.next
+  line_fits_after =
+      let held = ready.blanks leaf in
+      let low : after_lines pass.placing.builder.at pass.blanks.items ≤ at = omega (arith, held.low, place.low) in
+      assumption (low, held, place)
+
+-- ---- blank lines
+
+quotes_alike : (texts : List (List ℕ)) (blocks : List OpenBlock) (frames : List Frame) → AreOpen texts blocks frames
+    → has_quote blocks ≡ quotes_in frames
+quotes_alike texts blocks [] none = rw none refl
+quotes_alike texts blocks (f ∷ outer) (block, others, are, is, around) =
+    let both = quote_with others block ∙ or_comm (has_quote others) (own.is_quote block.body) in
+    let alike = quote_alike texts f.block.kind block.body is.body in
+    rw (are, both, alike, quotes_alike texts others outer around) refl
+  where
+    quote_with : (others : List OpenBlock) (block : OpenBlock)
+        → has_quote (others ++ block ∷ []) ≡ (has_quote others || own.is_quote block.body)
+    quote_with [] block = or-false (own.is_quote block.body)
+    quote_with (first ∷ others) block = rw (quote_with others block)
+        (sym (or_assoc (own.is_quote first.body) (has_quote others) (own.is_quote block.body)))
+
+-- what a container other than a block quote leaves of a line is as blank as the line
+taken_alike : (s : Source) (l m : SourceLine) (empty : Bool) (kind : Kind) → is_quote_kind kind ≡ false
+    → inside_container s l empty kind ≡ Some m → is_blank_rest m ≡ is_blank_rest l
+taken_alike s l m empty was.quote_container plain takes = absurd (true≢false plain)
+taken_alike s l m empty (was.alert_container kind) plain takes = absurd (true≢false plain)
+taken_alike s l m empty (was.item_container indent) plain takes =
+    indented_alike l m indent (goes_on_in (is_blank_rest l && empty) _ m takes)
+taken_alike s l m empty (was.footnote_container label) plain takes =
+    note_alike l m (not s.syntax.old_footnotes) (goes_on_in (is_blank_rest l && s.syntax.old_footnotes) _ m takes)
+taken_alike s l m empty other plain takes = ap is_blank_rest (sym (same_Some l m takes))
+
+-- so is what is left where no block quote goes on
+unquoted_alike : (s : Source) (frames : List Frame) (inside : Forest Block) (l : SourceLine)
+    → quotes_in (reached s frames inside l).outer ≡ false
+    → is_blank_rest (reached s frames inside l).rest ≡ is_blank_rest l
+unfolding reached
+unquoted_alike s [] inside l = λ none. refl
+unquoted_alike s (f ∷ outer) inside l =
+    let others = unquoted_alike s outer (forgotten f inside) l in
+    on_reached (λ r. quotes_in r.outer ≡ false → is_blank_rest r.rest ≡ is_blank_rest l) s f outer inside l
+    (λ rest all takes none.
+    let parts = or_parts (is_quote_kind f.block.kind) _ none in
+    taken_alike s _ rest (is_nil inside) f.block.kind parts.0 takes ∙ others parts.1) (λ all takes. others)
+    (λ g inner some. others)
+
+-- the byte offset up to which lines are not blank moves past a blank line, or stays
+pub record SeesBlank (old : Pass) (line : Line) (source : SourceLine) (placed : ℕ) : Type 0 where
+  pub moves : is_blank_rest source ≡ false → placed ≡ line.next
+  pub stays : is_blank_rest source ≡ true → placed ≡ old.placed
+
+-- it moves over white space where no block quote is open, and there is white space after it
+pub record MovesOver (text : List ℕ) (blocks : List OpenBlock) (from placed to : ℕ) : Type 0 where
+  pub low : from ≤ placed
+  pub high : placed ≤ to
+  pub boundary : IsCharBoundary text placed
+  pub next : IsCharBoundary text to
+  pub before : has_quote blocks ≡ false → AllPass is_in_blank_line text from placed
+  pub after : AllPass is_in_blank_line text placed to
+
+pub blank_moves : {s : Source} {old : Pass} {line : Line} {found : code.Reached} {before : Before}
+    {source : SourceLine} {placed : ℕ} (texts : List (List ℕ)) (blocks : List OpenBlock)
+    → IsReachedBy s old line found before source → is_blank_rest (reached_of s before source).rest ≡ true
+    → SeesBlank old line source placed → AreOpen texts blocks (reached_of s before source).outer
+    → MovesOver old.placing.builder.text blocks old.placed placed line.next
+blank_moves {s} {old} {line} {found} {before} {source} texts blocks by blank sees are =
+    let text = old.placing.builder.text in let ready = by.stands.ready in
+    let place = place_first s old line found before source by in
+    by_test (is_blank_rest source) (λ is. rw (sees.stays is) (record {
+      low = omega arith;
+      high = omega (arith, ready.low, place);
+      boundary = ready.closable.boundary;
+      next = place.next;
+      before = λ none. AllPass-none is_in_blank_line text old.placed;
+      after = white_both text old.placed line.start line.next ready.white (white_line text line by.is.from
+          (ap (λ (left : LineLeft). list_all is_space_or_tab left.bytes) by.is.left ∙ is));
+    })) (λ is. rw (sees.moves is) (record {
+      low = omega (arith, ready.low, place);
+      high = omega arith;
+      boundary = place.next;
+      next = place.next;
+      before = λ none. absurd (true≢false (sym blank ∙ (unquoted_alike s before.frames (blocks_in before) source
+          (sym (quotes_alike texts blocks (reached_of s before source).outer are) ∙ none) ∙ is)));
+      after = AllPass-none is_in_blank_line text line.next;
+    }))
+
 -- after a blank line, where the containers were closed that it does not reach
 pub closed_ready : (old new : Pass) (to : ℕ) → AreClosable new.placing.builder old.placed → new.lines.items ≡ []
     → new.placing.builder.text ≡ old.placing.builder.text
     → MovesOver old.placing.builder.text new.placing.builder.blocks old.placed new.placed to → IsReady new to
-closed_ready old new to closable lines text moves =
+closed_ready old new to closable lines text was =
     let view = new.placing.builder in
-    read_ready new to (record {
-      closable = record {
-        outside = closable.outside;
-        containers = closable.containers;
-        low = omega (arith, closable.low, moves.low);
-        boundary = rw text moves.boundary;
-        white = λ none. white_both view.text view.at old.placed new.placed (closable.white none)
-            (rw text (moves.before none));
-      };
-      lines = lines;
-      low = moves.high;
-      boundary = rw text moves.next;
-      white = rw text moves.after;
-    })
+    let moves : MovesOver view.text view.blocks old.placed new.placed to = rw text was in
+    let low : view.at ≤ new.placed = omega (arith, closable.low, moves.low) in
+    let white = λ (none : has_quote view.blocks ≡ false).
+    white_both view.text view.at old.placed new.placed (closable.white none) (moves.before none) in
+    read_ready new to (assumption (low, white, closable, moves))
 
 -- after one that is held back
 pub held_ready : (old now : Pass) (from to : ℕ) → IsReady old from
@@ -702,22 +514,11 @@ pub held_ready : (old now : Pass) (from to : ℕ) → IsReady old from
     → MovesOver old.placing.builder.text (without_leaf old.placing.builder) old.placed now.placed to
     → IsReady (record old { blanks = now.blanks; looseness = now.looseness; placed = now.placed }) to
 held_ready old now from to ready held moves =
+    let view = old.placing.builder in
     let low : leaf_end old ≤ now.placed = omega (arith, ready.closable.low, moves.low) in
-    assumption (
-      low,
-      ready,
-      moves,
-      λ (leaf : old.placing.builder.leaf ≡ true). held,
-      λ (none : has_quote (without_leaf old.placing.builder) ≡ false). white_both old.placing.builder.text
-          (leaf_end old) old.placed now.placed (ready.closable.white none) (moves.before none),
-    )
-
--- ---- lines that are not blank
-
--- once it is recorded that such a line was read
-pub seen_ready : (old now : Pass) (to : ℕ) → IsReadyAfter old to
-    → IsReady (record old { looseness = now.looseness; placed = to }) to
-seen_ready old now to ready = assumption (ready)
+    let white = λ (none : has_quote (without_leaf view) ≡ false).
+    white_both view.text (leaf_end old) old.placed now.placed (ready.closable.white none) (moves.before none) in
+    assumption (low, ready, moves, white, λ (leaf : view.leaf ≡ true). held)
 
 -- ---- the end
 

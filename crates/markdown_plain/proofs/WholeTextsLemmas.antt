@@ -1,31 +1,24 @@
 -- The blocks of a whole text, line by line: what the pass stands for after each of its lines, and the block result
 -- once all blocks are closed.
 use Rattle.std.proofs.Common.{◌≡◌, ℕ, ◌<◌, ◌≤◌, List, [], ◌∷◌, None, drop, length, arith, refl, sym, ap, ◌∙◌, subst}
+use Rattle.markdown_plain.proofs.Names.{part_length, Forest, nil, BuilderView, parts_of, Source, AllPass, IsLineFrom}
+use Rattle.markdown_plain.proofs.Names.{is_in_blank_line, Line, Block, with_next_line, definitions_in, footnotes_in}
+use Rattle.markdown_plain.proofs.Names.{shown_blocks, Pass, AreClosable, IsReady, ClosesDown, IsSource, Stands}
+use Rattle.markdown_plain.proofs.Names.{with_last, blocks_before, IsBuilt, IsCounted}
 use Rattle.std.specs.Prelude.{slice_range}
 use Rattle.std.specs.List.{fold}
 use Rattle.std.specs.Str.{IsCharBoundary, IsUtf8}
 use Rattle.std.proofs.lemmas.Str.{IsCharBoundary-start}
-use Rattle.markdown_base.proofs.ByteListLemmas.{part_length}
-use Rattle.markdown_base.specs.Forest.{Forest, nil, relabelled}
-use Rattle.markdown_builder.specs.BuilderView.{BuilderView, nothing_made, HasParts, parts_of}
-use Rattle.markdown_builder.specs.declared.open_block.OpenBlock.{OpenBlock}
-use Rattle.markdown_base.specs.Source.{Source}
-use Rattle.markdown_lines.specs.Lines.{AllPass, IsLineFrom, is_in_blank_line}
+use Rattle.markdown_base.specs.Forest.{relabelled}
+use Rattle.markdown_builder.specs.BuilderView.{nothing_made, HasParts}
 use Rattle.markdown_lines.specs.MetadataBlocks.{lines_at}
 use Rattle.markdown_lines.specs.SourceLines.{first_line}
-use Rattle.markdown_lines.specs.declared.line.Line.{Line}
 use Rattle.markdown_lines.proofs.LinesAheadLemmas.{line_read, lines_step, no_lines}
-use Rattle.markdown_block_rules.specs.BlockGrowth.{Block, blocks_of, with_next_line}
-use Rattle.markdown_block_rules.specs.BlockRules.{block_definitions, block_footnotes, block_tree, definitions_in}
-use Rattle.markdown_block_rules.specs.BlockRules.{footnotes_in, shown_blocks}
-use Rattle.markdown_plain.specs.declared.pass.Pass.{Pass}
-use Rattle.markdown_plain.specs.Closable.{AreClosable, AreContainers, IsClosable, IsReady}
-use Rattle.markdown_plain.specs.PassSteps.{ClosesDown}
+use Rattle.markdown_block_rules.specs.BlockGrowth.{blocks_of}
+use Rattle.markdown_plain.proofs.FramesLemmas.{none_within}
+use Rattle.markdown_plain.specs.Closable.{IsClosable}
 use Rattle.markdown_plain.specs.Readable.{HasNothing, MayReadLine, MayReadText, ReadsLine}
-use Rattle.markdown_plain.specs.Standing.{IsSource, Stands, StandsFor}
-use Rattle.markdown_plain.specs.ReachedLines.{Before, blocks_before}
-use Rattle.markdown_plain.specs.Settled.{AreOpen, IsBuilt}
-use Rattle.markdown_plain.specs.TableRows.{IsCounted}
+use Rattle.markdown_plain.specs.Standing.{StandsFor}
 use Rattle.markdown_base.specs.BlockTree.{tree_of}
 use Rattle.markdown_base.specs.Coverage.{Covers}
 use Rattle.markdown_base.specs.WellFormed.{IsWellFormed}
@@ -34,7 +27,7 @@ use Rattle.markdown_base.specs.declared.item.Item.{Item}
 use Rattle.markdown_base.specs.declared.node.Node.{Node}
 use Rattle.markdown_builder.specs.HeadingsHoldInline.{HeadingsHoldInline}
 use Rattle.markdown_builder.specs.Tightness.{TightInTightLists}
-use Rattle.markdown_builder.specs.Shown.{Shown, shown_trees}
+use Rattle.markdown_builder.specs.Shown.{shown_trees}
 use Rattle.markdown_block_rules.specs.BlockResults.{IsBlockResult}
 use Rattle.markdown_plain.proofs.ClosingDownLemmas.{holds_last}
 use Rattle.markdown_plain.proofs.BegunLeavesLemmas.{no_paragraph}
@@ -44,28 +37,21 @@ use Rattle.markdown_plain.proofs.ReadyLinesLemmas.{read_ready, white_at_end}
 -- ---- one line
 
 -- the line at a byte offset, as the pass reads it, is that of the definition
-source_at : (pass : Pass) (at : ℕ) (line : Line) → IsLineFrom pass.placing.builder.text at line
+pub source_at : (pass : Pass) (at : ℕ) (line : Line) → IsLineFrom pass.placing.builder.text at line
     → IsCharBoundary pass.placing.builder.text at → IsUtf8 pass.placing.builder.text
     → IsSource pass line (first_line at (drop at pass.placing.builder.text))
 source_at pass at line is boundary utf8 =
-    let text = pass.placing.builder.text in
-    let read = line_read text at line is in
-    let begins = is.begins in
+    let text = pass.placing.builder.text in let read = line_read text at line is in let begins = is.begins in
+    let size = ap length read.0 ∙ part_length text line.start line.stop is.content.high in
     record {
       left = ap (λ n. record { scanned = n; owed = 0; column = 0; bytes = slice_range text line.start line.stop })
-          begins
-          ∙ ap (λ (bytes : List ℕ). record { scanned = at; owed = 0; column = 0; bytes = bytes }) (sym read.0);
-      stop = omega (
-        arith,
-        ap length read.0 ∙ part_length text line.start line.stop is.content.high,
-        is.content.low,
-        begins,
-      );
+          begins ∙ ap (λ (bytes : List ℕ). record { scanned = at; owed = 0; column = 0; bytes = bytes }) (sym read.0);
+      stop = omega (arith, size, is.content.low, begins);
       next = sym read.1;
       outermost = refl;
       indent = refl;
       from = subst (λ n. IsLineFrom text n line) (sym begins) is;
-      boundary = subst (IsCharBoundary text) (sym begins) boundary;
+      boundary = rw begins boundary;
       utf8 = utf8;
     }
 
@@ -86,22 +72,6 @@ stands_first may = record {
   whole = refl;
 }
 
--- before the next line
-abbrev pub before_at : (s : Source) (pass : Pass) (at : ℕ) → StandsAt s pass at → Before
-before_at s pass at so_far = record {
-  frames = so_far.stands.frames;
-  inside = so_far.stands.inside;
-  last = so_far.stands.last;
-}
-
-pub own_line : (s : Source) (pass : Pass) (at : ℕ) (line : Line) → pass.placing.builder.text ≡ s.text
-    → IsLineFrom s.text at line → IsCharBoundary s.text at → IsUtf8 s.text
-    → IsSource pass line (first_line at (drop at s.text))
-own_line s pass at line same is boundary utf8 =
-    subst (λ text. IsSource pass line (first_line at (drop at text))) same
-    (source_at pass at line (subst (λ text. IsLineFrom text at line) (sym same) is)
-    (subst (λ text. IsCharBoundary text at) (sym same) boundary) (subst IsUtf8 (sym same) utf8))
-
 -- a line of the text is the next
 pub record IsNextLine (s : Source) (text : List ℕ) (at : ℕ) (line : Line) : Type 0 where
   pub same : text ≡ s.text
@@ -114,34 +84,29 @@ pub record IsNextLine (s : Source) (text : List ℕ) (at : ℕ) (line : Line) : 
 abbrev pub may_read_next : {s : Source} {old : Pass} {text : List ℕ} {at : ℕ} {line : Line}
     → IsNextLine s text at line → StandsAt s old at → MayReadLine text old line
 may_read_next {s} {old} {text} {at} {line} next so_far =
-    let made = before_at s old at so_far in
+    let were = so_far.stands in
+    let own : old.placing.builder.text ≡ s.text = ap (λ (s : Source). s.text) were.stands.source in
     record {
       s = s;
-      before = made;
+      before = record { frames = were.frames; inside = were.inside; last = were.last };
       source = first_line at (drop at s.text);
       same = next.same;
-      stands = subst (Stands s old made.frames made.inside made.last) (sym next.is.begins) so_far.stands.stands;
-      is = own_line s old at line (ap (λ (s : Source). s.text) so_far.stands.stands.source) next.is next.boundary
-          next.utf8;
-      counted = subst (IsCounted s old) so_far.stands.whole so_far.counted;
+      stands = rw next.is.begins were.stands;
+      is = rw (← own) (source_at old at line (rw own next.is) (rw own next.boundary) (rw own next.utf8));
+      counted = rw (← were.whole) so_far.counted;
     }
 
 -- and the pass stands after it
 pub stands_next : {s : Source} {old new : Pass} {text : List ℕ} {at : ℕ} {line : Line} → IsNextLine s text at line
     → StandsAt s old at → ReadsLine text old line new → StandsAt s new line.next
 stands_next {s} {old} {new} {text} {at} {line} next so_far reads =
-    let may = may_read_next next so_far in
-    let read = reads may in
+    let may = may_read_next next so_far in let read = reads may in
     record {
       blocks = with_next_line s (blocks_before may.before) may.source;
       stands = read.stands;
       counted = read.counted;
       whole = so_far.whole
-          ∙ (ap (λ lines. fold (with_next_line s) so_far.blocks lines) (lines_step s.text at next.less)
-          ∙ (ap (λ blocks. fold (with_next_line s) (with_next_line s blocks may.source)
-          (lines_at s.text may.source.next)) so_far.stands.whole
-          ∙ ap (λ n. fold (with_next_line s) (with_next_line s (blocks_before may.before) may.source)
-          (lines_at s.text n)) (line_read s.text at line next.is).1));
+          ∙ rw (lines_step s.text at next.less, so_far.stands.whole, ← (line_read s.text at line next.is).1) refl;
     }
 
 -- ---- the end
@@ -152,8 +117,9 @@ pub whole_text : (s : Source) (old new : Pass) (from : ℕ) → length s.text �
 whole_text s old new from end so_far closes =
     let at = so_far.stands in
     let whole = so_far.whole ∙ (ap (fold (with_next_line s) so_far.blocks) (no_lines s.text from end) ∙ at.whole) in
-    rw whole (closes.forgets s at.frames at.inside at.last
-    (holds_last s old at.frames at.inside at.last at.stands.unended)).stands.built
+    let none = none_within at.frames in
+    rw whole (rw (none.0, none.1 (with_last at.inside at.last)) at (closes.forgets s at.frames at.inside at.last
+    (holds_last s old at.frames at.inside at.last at.stands.unended)).stands.built)
 
 -- only white space is left of it
 pub white_left : (s : Source) (old new : Pass) (from : ℕ) → length new.placing.builder.text ≤ from
@@ -161,25 +127,20 @@ pub white_left : (s : Source) (old new : Pass) (from : ℕ) → length new.placi
     → new.placing.builder.blocks ≡ [] → new.placing.builder.text ≡ old.placing.builder.text
     → AllPass is_in_blank_line new.placing.builder.text new.placing.builder.at (length new.placing.builder.text)
 white_left s old new from end so_far closes none text =
-    let ready = so_far.stands.stands.ready in
-    white_at_end old new from ready (closes ready.closable) none text end
+    let ready = so_far.stands.stands.ready in white_at_end old new from ready (closes ready.closable) none text end
 
 -- ---- from nothing to the tree
 
 nothing_ready : (s : Source) (pass : Pass) → HasNothing s pass → IsUtf8 s.text → IsReady pass 0
 nothing_ready s pass is utf8 =
-    let view = pass.placing.builder in
-    let none : view.blocks ≡ [] = ap (λ (view : BuilderView). view.blocks) is.made in
-    let text : view.text ≡ s.text = ap (λ (view : BuilderView). view.text) is.made in
-    let at : view.at ≡ 0 = ap (λ (view : BuilderView). view.at) is.made in
-    let start = subst (λ t. IsCharBoundary t 0) (sym text) (IsCharBoundary-start s.text utf8) in
-    let placed = is.placed in
+    let view = pass.placing.builder in let at : view.at ≡ 0 = ap (λ (view : BuilderView). view.at) is.made in
+    let start : IsCharBoundary view.text 0 = rw is.made (IsCharBoundary-start s.text utf8) in let placed = is.placed in
     read_ready pass 0 (record {
       closable = record {
         outside = ap (λ (view : BuilderView). view.leaf) is.made;
-        containers = subst AreContainers (sym none) tt;
+        containers = rw is.made tt;
         low = omega (arith, at);
-        boundary = subst (IsCharBoundary view.text) (sym placed) start;
+        boundary = rw placed start;
         white = λ quotes k low high. absurd (omega (arith, placed, high));
       };
       lines = is.lines;
@@ -192,7 +153,7 @@ nothing_built : (s : Source) → IsBuilt s (nothing_made s.text) [] nil
 unfolding shown_blocks definitions_in footnotes_in
 nothing_built s = record {
   text = refl;
-  blocks = tt;
+  blocks = refl;
   nested = tt;
   outside = refl;
   levels = refl;
@@ -203,12 +164,11 @@ nothing_built s = record {
 -- it stands for no blocks
 pub nothing_stands : (s : Source) (pass : Pass) → HasNothing s pass → IsUtf8 s.text → Stands s pass [] nil None 0
 nothing_stands s pass is utf8 = record {
-  source = ap (λ (view : BuilderView). record { text = view.text; syntax = pass.syntax }) is.made
-      ∙ ap (λ syntax. record { text = s.text; syntax = syntax }) is.syntax;
+  source = rw (is.made, is.syntax) refl;
   unended = (
     record {
       stands = record {
-        built = subst (λ (view : BuilderView). IsBuilt s view [] nil) (sym is.made) (nothing_built s);
+        built = rw is.made (nothing_built s);
         ends = record { at = ap (λ (view : BuilderView). view.at) is.made; quotes = tt };
         items = tt;
       };
@@ -231,42 +191,19 @@ nothing_stands s pass is utf8 = record {
 pub nothing_counted : (s : Source) (pass : Pass) → HasNothing s pass → IsCounted s pass nil
 nothing_counted s pass is = record { added = is.added; most = is.most; few = omega arith; unended = refl }
 
--- the blocks of a text are made, and all closed
-pub record HasBlocks (s : Source) (view : BuilderView) : Type 0 where
-  pub levels : view.levels ≡ block_tree s ∷ []
-  pub definitions : view.definitions ≡ block_definitions s
-  pub footnotes : view.footnotes ≡ block_footnotes s
-
-pub all_built : (s : Source) (view : BuilderView) → IsBuilt s view [] (blocks_of s) → HasBlocks s view
-all_built s view built =
-    record { levels = built.levels; definitions = built.definitions; footnotes = built.footnotes }
-
--- that no more blocks are open is known then
-pub none_open : (s : Source) (view : BuilderView) → IsBuilt s view [] (blocks_of s) → view.blocks ≡ []
-none_open s view built = nothing view.blocks built.blocks
-  where
-    nothing : (blocks : List OpenBlock) → AreOpen view.texts blocks [] → blocks ≡ []
-    nothing [] are = refl
-    nothing (block ∷ blocks) are = absurd are
-
 -- ---- the block result
-
-first_same : (a b : Forest Shown) → a ∷ [] ≡ b ∷ [] → a ≡ b
-first_same a b same = cc (same)
 
 pub result_of : (s : Source) (view : BuilderView) (nodes : List (Node Item)) (parts : BlockParts)
     → IsBuilt s view [] (blocks_of s)
     → view.levels ≡ shown_trees (parts_of view) (relabelled (λ n. n.item) (tree_of nodes)) ∷ []
     → HasParts view parts → view.text ≡ s.text → IsWellFormed view.text nodes parts → Covers view.text nodes parts
     → TightInTightLists nodes → HeadingsHoldInline (tree_of nodes) → IsBlockResult s nodes parts
-result_of s view nodes parts built tree has text formed covered tight headings =
-    let all = all_built s view built in
-    record {
-      tree = rw (has.texts, has.headings, has.alignments) (sym (first_same _ _ (sym all.levels ∙ tree)));
-      definitions = has.definitions ∙ all.definitions;
-      footnotes = has.footnotes ∙ all.footnotes;
-      well_formed = subst (λ t. IsWellFormed t nodes parts) text formed;
-      covers = subst (λ t. Covers t nodes parts) text covered;
-      tight = tight;
-      headings_hold_inline = headings;
-    }
+result_of s view nodes parts built tree has text formed covered tight headings = record {
+  tree = rw (has.texts, has.headings, has.alignments) (cc (built.levels, tree));
+  definitions = has.definitions ∙ built.definitions;
+  footnotes = has.footnotes ∙ built.footnotes;
+  well_formed = rw (← text) formed;
+  covers = rw (← text) covered;
+  tight = tight;
+  headings_hold_inline = headings;
+}

@@ -104,7 +104,7 @@ pub record IsOpened (s : Source) (pass : Pass) (line : Line) (frames : List Fram
   pub free : MayOpen s pass frames
   pub quotes : QuotesEnd line.next frames
   pub items : AreItemsOpenedIn line frames
-  pub first : placed_end 0 frames nil ≡ line.next
+  pub first : placed_end frames nil ≡ line.next
   pub earlier : AreOpenedBefore line.next frames
 
 -- The rest of a line is still to be read inside these containers, and makes the blocks so far these ones.
@@ -138,7 +138,7 @@ pub record Holds (s : Source) (pass : Pass) (frames : List Frame) (inside : Fore
   pub source : source_of pass ≡ s
   pub unended : HoldsLast s pass frames inside last
   pub loose : IsLooseAs pass.looseness frames (with_last inside last)
-  pub blanks : BlanksKnown pass.looseness.blank_from 0 frames (with_last inside last)
+  pub blanks : BlanksKnown pass.looseness.blank_from frames (with_last inside last)
   pub before : lines_end pass.lines.items ≤ from
   pub unheld : pass.placing.builder.leaf ≡ false → pass.blanks.items ≡ []
   pub earlier : AreOpenedBefore from frames

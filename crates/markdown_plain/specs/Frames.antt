@@ -1,8 +1,8 @@
 -- Blocks with some of the containers on their right edge apart: those that are open while a line is read. To close a
 -- container is to forget that it is open: the blocks are the same.
 use Rattle.std.specs.Prelude.{◌≡◌, ℕ, ◌-◌, Bool, true, false, not, ◌&&◌, List, [], ◌∷◌, Option, Some, None, length}
-use Rattle.std.specs.Prelude.{slice_get, take, if◌then◌else◌}
-use Rattle.std.specs.Option.{option_map, option_map_or}
+use Rattle.std.specs.Prelude.{nat_lt, if◌then◌else◌}
+use Rattle.std.specs.Option.{option_map}
 use Rattle.markdown_base.specs.Forest.{Forest, nil, node}
 use Rattle.markdown_base.specs.Source.{Source}
 use Rattle.markdown_scan.specs.ContainerParts.{past_footnote, past_indent, past_quote}
@@ -17,11 +17,6 @@ pub record Frame : Type 0 where
   pub before : Forest Block
   pub block : Block
 
--- open containers, the outermost first, with these blocks in the innermost
-abbrev pub rebuilt : List Frame → Forest Block → Forest Block
-rebuilt [] inside = inside
-rebuilt (f ∷ frames) inside = followed_by f.before (node f.block (rebuilt frames inside) nil)
-
 -- an open container that goes on in a line
 abbrev pub touched : SourceLine → Frame → Frame
 touched l f = record f { block = record f.block { last = l.next } }
@@ -29,6 +24,11 @@ touched l f = record f { block = record f.block { last = l.next } }
 -- a container that is closed, with what is in it, after the blocks before it
 abbrev pub forgotten : Frame → Forest Block → Forest Block
 forgotten f inside = followed_by f.before (node f.block inside nil)
+
+-- open containers, the innermost first, with these blocks in the innermost
+abbrev pub rebuilt : List Frame → Forest Block → Forest Block
+rebuilt [] inside = inside
+rebuilt (f ∷ outer) inside = rebuilt outer (forgotten f inside)
 
 -- the kind is that of a list
 abbrev pub is_list : Kind → Bool
@@ -60,20 +60,31 @@ abbrev pub AreContainers : List Frame → Type 0
 AreContainers [] = Unit
 AreContainers (f ∷ frames) = IsContainer f.block.kind × AreContainers frames
 
+-- the innermost open container passes a test of its kind
+abbrev pub innermost_is : (Kind → Bool) → List Frame → Bool
+innermost_is test [] = false
+innermost_is test (f ∷ outer) = test f.block.kind
+
 -- directly in a list there are items, and nowhere else
 abbrev pub AreNested : List Frame → Type 0
 AreNested [] = Unit
-AreNested (f ∷ []) = Unit
-AreNested (f ∷ g ∷ frames) = (is_list f.block.kind ≡ is_item g.block.kind) × AreNested (g ∷ frames)
+AreNested (f ∷ outer) = (innermost_is is_list outer ≡ is_item f.block.kind) × AreNested outer
 
--- the innermost open container passes a test of its kind
-abbrev pub innermost_is : (Kind → Bool) → List Frame → Bool
-innermost_is test frames = option_map_or (λ f. test f.block.kind) (slice_get frames (length frames - 1)) false
+-- the outermost of some open containers, up to a number of them
+abbrev pub outer_within : ℕ → List Frame → List Frame
+outer_within depth [] = []
+outer_within depth (f ∷ outer) = if nat_lt (length outer) depth then f ∷ outer else outer_within depth outer
+
+-- the blocks in the innermost of these, once the others are closed
+abbrev pub closed_in : ℕ → List Frame → Forest Block → Forest Block
+closed_in depth [] inside = inside
+closed_in depth (f ∷ outer) inside =
+    if nat_lt (length outer) depth then inside else closed_in depth outer (forgotten f inside)
 
 -- the number of the open containers that a block that is no item may begin in: the outermost `depth`, without the
 -- innermost of them where that is a list
 abbrev pub room_depth : ℕ → List Frame → ℕ
-room_depth depth frames = if innermost_is is_list (take depth frames) then depth - 1 else depth
+room_depth depth frames = if innermost_is is_list (outer_within depth frames) then depth - 1 else depth
 
 -- What is left of a line in a container, after what that takes of it, where it goes on in the line; it may be empty so
 -- far. A list takes nothing, and goes on as long as its last item does, or another one follows.
@@ -97,18 +108,19 @@ pub record Reached : Type 0 where
   pub inner : List Frame
   pub rest : SourceLine
 
--- nothing takes a part of the line any more
-abbrev pub reached_here : List Frame → SourceLine → Reached
-reached_here inner l = record { outer = []; inner = inner; rest = l }
+-- what is reached with the innermost of those that go on, by what is left of the line in it, if it goes on
+abbrev pub reached_past : Frame → Reached → Option SourceLine → Reached
+reached_past f r None = record r { inner = f ∷ [] }
+reached_past f r (Some rest) = record { outer = f ∷ r.outer; inner = []; rest = rest }
 
-abbrev pub reached_past : Frame → List Frame → SourceLine → (SourceLine → Reached) → Option SourceLine → Reached
-reached_past f frames l inside None = reached_here (f ∷ frames) l
-reached_past f frames l inside (Some rest) =
-    record { outer = f ∷ (inside rest).outer; inner = (inside rest).inner; rest = (inside rest).rest }
+-- what is reached with one container more, which may be empty, by those that do not go on around it
+abbrev pub reached_in : Source → Frame → (empty : Bool) → Reached → List Frame → Reached
+reached_in s f empty r [] = reached_past f r (inside_container s r.rest empty f.block.kind)
+reached_in s f empty r (g ∷ inner) = record r { inner = f ∷ g ∷ inner }
 
--- the open containers that go on in a line, with these blocks in the innermost
+-- The open containers that go on in a line, with these blocks in the innermost: each that takes its part of the line,
+-- and around which all do.
 unfoldable pub reached : Source → List Frame → Forest Block → SourceLine → Reached
-reached s [] inside l = reached_here [] l
-reached s (f ∷ frames) inside l =
-    reached_past f frames l (reached s frames inside)
-    (inside_container s l (is_nil (rebuilt frames inside)) f.block.kind)
+reached s [] inside l = record { outer = []; inner = []; rest = l }
+reached s (f ∷ outer) inside l =
+    let r = reached s outer (forgotten f inside) l in reached_in s f (is_nil inside) r r.inner

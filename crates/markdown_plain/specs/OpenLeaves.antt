@@ -18,12 +18,12 @@ use Rattle.markdown_lines.specs.declared.line.Line.{Line}
 use Rattle.markdown_lines.specs.declared.position.Position.{Position}
 use Rattle.markdown_block_rules.specs.BlockGrowth as was
 use Rattle.markdown_block_rules.specs.BlockGrowth.{Block, Kind}
-use Rattle.markdown_block_rules.specs.BlockRules.{in_no_item, shown_blocks}
+use Rattle.markdown_block_rules.specs.BlockRules.{shown_blocks}
 use Rattle.markdown_plain.specs.declared.pass.Pass.{Pass}
 use Rattle.markdown_plain.specs.Frames.{Frame, is_item}
 use Rattle.markdown_plain.specs.HeldSources.{AreInParagraph, IsParagraph, IsRest, IsTextLine}
 use Rattle.markdown_plain.specs.Paragraphs.{EndsFrom, first_task, lines_end}
-use Rattle.markdown_plain.specs.OpenedFrames.{around_innermost}
+use Rattle.markdown_plain.specs.Settled.{around_innermost}
 use Rattle.markdown_plain.specs.Settled.{IsBuilt, placed_end}
 
 -- a leaf, or a table
@@ -57,7 +57,7 @@ pub record InfoStands (text : List ℕ) (opening : OpeningFence) : Type 0 where
 -- a builder has made these blocks, and is where the last of them ends
 pub record IsPlaced (s : Source) (view : BuilderView) (frames : List Frame) (inside : Forest Block) : Type 0 where
   pub built : IsBuilt s view frames inside
-  pub at : view.at ≡ placed_end 0 frames inside
+  pub at : view.at ≡ placed_end frames inside
 
 -- A block that is no container is open in the innermost container, after these blocks: if it is closed here, it is this
 -- one. It is a leaf of the builder, or a table.
@@ -73,8 +73,8 @@ pub record IsOpenIn (s : Source) (view : BuilderView) (frames : List Frame) (ins
   pub trees : view.levels ≡ levels ++ below ∷ []
   pub shown : node (shown_item (parts_of view) (record { start = block.start; end = view.at; body = block.body }))
       below nil
-      ≡ shown_blocks s (around_innermost in_no_item frames) (leaf_block b)
-  pub end : view.at ≡ placed_end 0 frames (followed_by inside (leaf_block b))
+      ≡ shown_blocks s (around_innermost frames) (leaf_block b)
+  pub end : view.at ≡ placed_end frames (followed_by inside (leaf_block b))
 
 -- the kind is that of a leaf that has ended with its last line
 abbrev pub has_ended : Kind → Bool
@@ -102,8 +102,8 @@ pub record HoldsParagraph (s : Source) (pass : Pass) (frames : List Frame) (insi
   pub some : 0 < length pass.lines.items
   pub kind : b.kind ≡ was.paragraph_leaf sources
   pub lines : IsParagraph pass.placing.builder.text pass.lines.items sources
-  pub task : pass.task ≡ first_task s (around_innermost in_no_item frames).marked sources
-  pub from : EndsFrom (around_innermost in_no_item frames).marked sources
+  pub task : pass.task ≡ first_task s (around_innermost frames).marked sources
+  pub from : EndsFrom (around_innermost frames).marked sources
   pub last : b.last ≡ lines_end pass.lines.items
 
 -- the kind is that of a table

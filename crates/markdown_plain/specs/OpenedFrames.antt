@@ -1,5 +1,5 @@
 -- Containers that are opened, and blocks that are appended in the innermost of the open ones.
-use Rattle.std.specs.Prelude.{◌≡◌, ◌==◌, Bool, false, List, [], ◌∷◌, ◌++◌, Option, Some, None, drop, length, take}
+use Rattle.std.specs.Prelude.{◌≡◌, ◌==◌, Bool, false, List, [], ◌∷◌, Option, Some, None, length}
 use Rattle.std.specs.Prelude.{if◌then◌else◌}
 use Rattle.markdown_base.specs.Forest.{Forest, nil}
 use Rattle.markdown_base.specs.declared.tag.BlockQuoteKind.{BlockQuoteKind}
@@ -7,19 +7,13 @@ use Rattle.markdown_base.specs.Source.{Source}
 use Rattle.markdown_lines.specs.declared.list_marker.ListMarker.{ListMarker}
 use Rattle.markdown_block_rules.specs.BlockGrowth as was
 use Rattle.markdown_block_rules.specs.BlockGrowth.{Block, Kind}
-use Rattle.markdown_block_rules.specs.BlockRules.{Around}
-use Rattle.markdown_plain.specs.Frames.{Frame, innermost_is, is_list, rebuilt, room_depth}
-use Rattle.markdown_plain.specs.Settled.{IsBuilt, IsLooseAs, around_in}
+use Rattle.markdown_plain.specs.Frames.{Frame, closed_in, innermost_is, is_list, outer_within, room_depth}
+use Rattle.markdown_plain.specs.Settled.{IsBuilt, IsLooseAs}
 use Rattle.markdown_plain.specs.declared.pass.Pass.{Pass}
-
--- what is around the blocks in the innermost of some open containers
-abbrev pub around_innermost : Around → List Frame → Around
-around_innermost around [] = around
-around_innermost around (f ∷ frames) = around_innermost (around_in f.block f.block.kind) frames
 
 -- open containers with one more, in which nothing is yet, after the blocks in the innermost of them
 abbrev pub with_frame : List Frame → Forest Block → Block → List Frame
-with_frame frames inside b = frames ++ record { before = inside; block = b } ∷ []
+with_frame frames inside b = record { before = inside; block = b } ∷ frames
 
 -- the kind of a block quote, or of an alert
 abbrev pub quote_kind : Option BlockQuoteKind → Kind
@@ -35,7 +29,7 @@ is_list_for found other = false
 abbrev pub with_list : Block → List Frame → Forest Block → List Frame
 with_list list frames inside =
     let depth = room_depth (length frames) frames in
-    with_frame (take depth frames) (rebuilt (drop depth frames) inside) list
+    with_frame (outer_within depth frames) (closed_in depth frames inside) list
 
 -- open containers with an item: in the list that it continues, or else in a new one
 abbrev pub with_item : ListMarker → (list item : Block) → List Frame → Forest Block → List Frame

@@ -1,6 +1,6 @@
 -- What steps of the pass make of it: all but the outermost of the open blocks are closed, room is made for a block, a
 -- line of text is added, an item is opened.
-use Rattle.std.specs.Prelude.{◌≡◌, ℕ, ◌≤◌, true, false, List, [], ◌∷◌, ◌++◌, Option, drop, length, take}
+use Rattle.std.specs.Prelude.{◌≡◌, ℕ, ◌≤◌, true, false, List, [], ◌∷◌, ◌++◌, Option, length, take}
 use Rattle.std.specs.Prelude.{if◌then◌else◌}
 use Rattle.markdown_base.specs.Forest.{Forest, nil}
 use Rattle.markdown_base.specs.Source.{Source}
@@ -14,7 +14,7 @@ use Rattle.markdown_plain.specs.Closable.{AreClosable, IsClosable, has_room}
 use Rattle.markdown_plain.specs.Closing.{MayClose}
 use Rattle.markdown_plain.specs.Containers.{closing_place}
 use Rattle.markdown_plain.specs.Fitting.{closed}
-use Rattle.markdown_plain.specs.Frames.{Frame, forgotten, innermost_is, is_list, rebuilt, room_depth}
+use Rattle.markdown_plain.specs.Frames.{Frame, closed_in, forgotten, innermost_is, is_list, outer_within, room_depth}
 use Rattle.markdown_plain.specs.OpenBlocks.{has_leaf, without_leaf}
 use Rattle.markdown_plain.specs.OpenedFrames.{MayOpen, with_frame, with_item}
 use Rattle.markdown_plain.specs.Paragraphs.{has_paragraph, task_at}
@@ -27,7 +27,7 @@ use Rattle.markdown_plain.specs.TextLines.{held_line}
 -- Nothing but these containers is open, with these blocks in the innermost: between two lines, or, where none are in
 -- it, after it was opened in a line.
 pub data HasOnly (s : Source) (pass : Pass) (frames : List Frame) (inside : Forest Block) : Type 0 where
-  between : MayClose s pass frames inside → BlanksKnown pass.looseness.blank_from 0 frames inside
+  between : MayClose s pass frames inside → BlanksKnown pass.looseness.blank_from frames inside
       → HasOnly s pass frames inside
   opened : MayOpen s pass frames → inside ≡ nil → HasOnly s pass frames inside
 
@@ -36,7 +36,7 @@ pub data HasOnly (s : Source) (pass : Pass) (frames : List Frame) (inside : Fore
 pub data MayCloseTo (s : Source) (pass : Pass) (depth : ℕ) (frames : List Frame) (inside : Forest Block)
     (last : Option Block) : Type 0 where
   between : HoldsLast s pass frames inside last
-      → BlanksKnown pass.looseness.blank_from 0 frames (with_last inside last)
+      → BlanksKnown pass.looseness.blank_from frames (with_last inside last)
       → (pass.placing.builder.leaf ≡ false → pass.blanks.items ≡ [])
       → MayCloseTo s pass depth frames inside last
   opened : MayOpen s pass frames → with_last inside last ≡ nil → depth ≡ length frames
@@ -57,7 +57,7 @@ pub record ClosesBlock (old new : Pass) : Type 0 where
     at = closing_place old;
   }
   pub forgets : (s : Source) (frames : List Frame) (f : Frame) (inside : Forest Block)
-      → MayClose s old (frames ++ f ∷ []) inside → MayClose s new frames (forgotten f inside)
+      → MayClose s old (f ∷ frames) inside → MayClose s new frames (forgotten f inside)
   pub same : new ≡ record old {
     placing = new.placing;
     looseness = record old.looseness {
@@ -70,7 +70,7 @@ pub record ClosesBlock (old new : Pass) : Type 0 where
 pub record ClosesDown (old new : Pass) (depth : ℕ) : Type 0 where
   pub forgets : (s : Source) (frames : List Frame) (inside : Forest Block) (last : Option Block)
       → HoldsLast s old frames inside last
-      → MayClose s new (take depth frames) (rebuilt (drop depth frames) (with_last inside last))
+      → MayClose s new (outer_within depth frames) (closed_in depth frames (with_last inside last))
   pub kept : has_leaf old.placing.builder ≡ false → old.lines.items ≡ []
       → length old.placing.builder.blocks ≤ depth → new ≡ old
   pub are : new.placing.builder.blocks ≡ take depth (without_leaf old.placing.builder)
@@ -93,8 +93,8 @@ pub record ClosesDown (old new : Pass) (depth : ℕ) : Type 0 where
 pub record MakesRoom (old new : Pass) (depth : ℕ) : Type 0 where
   pub room : (s : Source) (frames : List Frame) (inside : Forest Block) (last : Option Block)
       → MayCloseTo s old depth frames inside last → depth ≤ length frames
-      → IsRoomIn s new (take (room_depth depth frames) frames)
-      (rebuilt (drop (room_depth depth frames) frames) (with_last inside last))
+      → IsRoomIn s new (outer_within (room_depth depth frames) frames)
+      (closed_in (room_depth depth frames) frames (with_last inside last))
   pub kept : has_room old depth ≡ true → new ≡ record old { looseness = new.looseness }
   pub ended : new.lines.items ≡ []
   pub text : new.placing.builder.text ≡ old.placing.builder.text
@@ -137,8 +137,8 @@ pub record OpensItem (old new : Pass) (item : ItemStart) (at depth : ℕ) : Type
   pub opens : (s : Source) (frames : List Frame) (inside : Forest Block) (last : Option Block) (list b : Block)
       → MayCloseTo s old depth frames inside last → list.start ≡ at → list.kind ≡ list_container item.marker
       → b.start ≡ at → b.kind ≡ item_container item.indent
-      → MayOpen s new (with_item item.marker list b (take depth frames)
-      (rebuilt (drop depth frames) (with_last inside last)))
+      → MayOpen s new (with_item item.marker list b (outer_within depth frames)
+      (closed_in depth frames (with_last inside last)))
   pub text : new.placing.builder.text ≡ old.placing.builder.text
   pub here : new.placing.builder.at ≡ at
   pub same : new ≡ record old {

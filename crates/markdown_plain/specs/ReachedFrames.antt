@@ -1,5 +1,5 @@
 -- Which of the open containers go on in a line, as the definition of blocks says.
-use Rattle.std.specs.Prelude.{◌≡◌, ℕ, ◌+◌, Bool, true, false, ◌&&◌, ◌||◌, nat_le, nat_lt}
+use Rattle.std.specs.Prelude.{◌≡◌, ℕ, ◌+◌, Bool, true, false, ◌&&◌, nat_le}
 use Rattle.std.specs.Prelude.{List, [], ◌∷◌, ◌++◌, length, if◌then◌else◌}
 use Rattle.std.specs.List.{list_all}
 use Rattle.markdown_base.specs.Forest.{Forest}
@@ -47,8 +47,7 @@ are_none (f ∷ frames) = false
 -- there is none
 abbrev pub quote_depth : List Frame → ℕ
 quote_depth [] = 0
-quote_depth (f ∷ frames) =
-    if is_quote f.block.kind || nat_lt 0 (quote_depth frames) then quote_depth frames + 1 else 0
+quote_depth (f ∷ outer) = if is_quote f.block.kind then length outer + 1 else quote_depth outer
 
 -- what was reached in a line, by the open containers that go on in it
 pub record IsReached (text : List ℕ) (line : Line) (source : SourceLine) (result : Reached)

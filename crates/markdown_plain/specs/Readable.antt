@@ -1,16 +1,25 @@
 -- What the pass has to stand for so that a text, a line or the rest of one can be read: every call that places it then
 -- fits. And what it stands for once that was read.
-use Rattle.std.specs.Prelude.{◌≡◌, ℕ, Bool, List, [], None, false, length, max}
+use Rattle.std.specs.Prelude.{◌≡◌, ◌&&◌, ℕ, Bool, List, [], None, false, true, length, max, nat_le}
 use Rattle.markdown_builder.specs.BuilderView.{nothing_made}
 use Rattle.markdown_base.specs.Forest.{Forest, nil}
 use Rattle.markdown_base.specs.Source.{Source}
 use Rattle.markdown_lines.specs.SourceLines.{SourceLine, is_blank_rest}
+use Rattle.markdown_lines.specs.HtmlKinds.{ends_at_blank}
+use Rattle.markdown_lines.specs.Positions.{IsSpaceAt}
 use Rattle.markdown_lines.specs.declared.line.Line.{Line}
+use Rattle.markdown_lines.specs.declared.position.Position.{Position}
+use Rattle.markdown_plain.specs.declared.block_pass.Continued.{Continued}
+use Rattle.markdown_plain.specs.declared.block_pass.Continued.TheVariants as continued
+use Rattle.markdown_plain.specs.declared.pass.LeafKind.{LeafKind}
+use Rattle.markdown_plain.specs.declared.pass.LeafKind.TheVariants as leaf
 use Rattle.markdown_plain.specs.declared.containers.Reached.{Reached}
 use Rattle.markdown_plain.specs.declared.pass.Pass.{Pass}
 use Rattle.markdown_block_rules.specs.BlockGrowth.{Block, with_line, with_next_line}
 use Rattle.markdown_plain.specs.ReachedLines.{Before, GoesOffAs, IsReachedBy, LeavesOff, blocks_before, blocks_in}
 use Rattle.markdown_plain.specs.ReachedLines.{reached_of}
+use Rattle.markdown_plain.specs.OpenBlocks.{innermost_is, is_table}
+use Rattle.markdown_plain.specs.ReachedTables.{ReachesTable, is_next_row}
 use Rattle.markdown_plain.specs.Standing.{IsSource, PlacesFor, Stands, StandsFor}
 use Rattle.markdown_plain.specs.TableHeads.{IfParagraphLast, IsUntabled}
 use Rattle.markdown_plain.specs.TextLines.{IsTextHere}
@@ -44,29 +53,18 @@ pub record MayReadLine (text : List ℕ) (pass : Pass) (line : Line) : Type 0 wh
   pub counted : IsCounted s pass (blocks_before before)
 
 -- the same, and these of its open containers go on in the line
-pub record MayReadOn (text : List ℕ) (pass : Pass) (line : Line) (reached : Reached) : Type 0 where
+pub record MayReadOn (pass : Pass) (line : Line) (reached : Reached) : Type 0 where
   pub s : Source
   pub before : Before
   pub source : SourceLine
-  pub same : text ≡ s.text
   pub by : IsReachedBy s pass line reached before source
   pub counted : IsCounted s pass (blocks_before before)
 
--- all of them do, so that the last block may go on in the line
-pub record MayGoOn (text : List ℕ) (pass : Pass) (line : Line) (reached : Reached) : Type 0 where
-  pub s : Source
-  pub before : Before
-  pub source : SourceLine
-  pub same : text ≡ s.text
-  pub by : IsReachedBy s pass line reached before source
-  pub all : (reached_of s before source).inner ≡ []
-
 -- the last block does not go on in the line, what is left of which is blank or not
-pub record MayReadRest (text : List ℕ) (pass : Pass) (line : Line) (reached : Reached) (blank : Bool) : Type 0 where
+pub record MayReadRest (pass : Pass) (line : Line) (reached : Reached) (blank : Bool) : Type 0 where
   pub s : Source
   pub before : Before
   pub source : SourceLine
-  pub same : text ≡ s.text
   pub by : IsReachedBy s pass line reached before source
   pub left : is_blank_rest (reached_of s before source).rest ≡ blank
   pub off : (reached_of s before source).inner ≡ [] → LeavesOff s (reached_of s before source).rest before.last
@@ -81,6 +79,33 @@ pub record MayReadAsText (pass : Pass) (line : Line) (start depth : ℕ) : Type 
   pub here : IsTextHere s pass line start depth (blocks_in before) (reached_of s before source)
   pub untabled : IfParagraphLast s (IsUntabled s pass line.start (reached_of s before source)) before.last
 
+-- ---- what goes on in it
+
+-- a leaf of the builder is open that goes on so, and the line reaches it
+pub record ReachesLeaf (pass : Pass) (reached : Reached) (how : LeafKind) : Type 0 where
+  pub all : reached.all ≡ true
+  pub some : pass.placing.builder.leaf ≡ true
+  pub kind : pass.leaf ≡ how
+
+-- the line is not blank, and has code after four columns of space
+pub record BeginsCode (pass : Pass) (line : Line) (reached : Reached) (code : Position) : Type 0 where
+  pub filled : nat_le line.stop reached.content ≡ false
+  pub space : IsSpaceAt pass.placing.builder.text reached.position line.stop 4 (record { columns = 4; after = code })
+
+-- this leaf block is open, and goes on in the line; where it is said to be none, the last block does not go on
+abbrev pub GoesOnAs : Pass → Line → Reached → Continued → Type 0
+GoesOnAs pass line reached continued.Nothing =
+    (may : MayReadOn pass line reached) → GoesOffAs may.s pass line reached may.before may.source
+GoesOnAs pass line reached (continued.FencedCode fence) = ReachesLeaf pass reached (leaf.Fenced fence)
+GoesOnAs pass line reached (continued.Html kind) =
+    ReachesLeaf pass reached (leaf.Html kind) × ((nat_le line.stop reached.content && ends_at_blank kind) ≡ false)
+GoesOnAs pass line reached (continued.IndentedCode code) =
+    ReachesLeaf pass reached leaf.Indented × BeginsCode pass line reached code
+GoesOnAs pass line reached (continued.Metadata kind) = ReachesLeaf pass reached (leaf.Metadata kind)
+GoesOnAs pass line reached continued.Table = (innermost_is is_table pass.placing.builder.blocks ≡ true)
+    × ((may : MayReadOn pass line reached) → ReachesTable may.s pass line reached may.before may.source
+    × (is_next_row may.s pass line reached may.before may.source ≡ true))
+
 -- ---- what becomes of it
 
 -- the pass stands for these blocks between two lines, and for their cells
@@ -94,47 +119,22 @@ ReadsLine text old line new =
     (may : MayReadLine text old line)
     → StandsCounted may.s new line.next (with_next_line may.s (blocks_before may.before) may.source)
 
--- the last block goes on in the line, which was placed
-pub record LastGoesOn (text : List ℕ) (old : Pass) (line : Line) (reached : Reached) (new : Pass) : Type 0 where
-  pub places : (may : MayReadOn text old line reached)
-      → PlacesFor may.s new line.next (with_next_line may.s (blocks_before may.before) may.source)
-  pub counted : (may : MayReadOn text old line reached)
-      → IsCounted may.s new (with_next_line may.s (blocks_before may.before) may.source)
-
--- it does not, and the pass is as it was
-pub record LastGoesOff (text : List ℕ) (old : Pass) (line : Line) (reached : Reached) (new : Pass) : Type 0 where
-  pub same : new ≡ old
-  pub off : (may : MayReadOn text old line reached) → GoesOffAs may.s old line reached may.before may.source
-
--- the open leaf goes on in the line, which was placed, and no cell was added to a table
-pub record LeafGoesOn (old : Pass) (line : Line) (reached : Reached) (new : Pass) : Type 0 where
-  pub places : (may : MayGoOn old.placing.builder.text old line reached)
-      → PlacesFor may.s new line.next (with_line may.s (blocks_before may.before) may.source)
-  pub tables : new.tables ≡ old.tables
-
--- it does not, and the pass is as it was
-pub record LeafLeavesOff (old : Pass) (line : Line) (reached : Reached) (new : Pass) : Type 0 where
-  pub same : new ≡ old
-  pub off : (may : MayGoOn old.placing.builder.text old line reached)
-      → LeavesOff may.s (reached_of may.s may.before may.source).rest may.before.last
-
 -- the line is the delimiter row of a table, which was begun
 pub record IsDelimiterRow (old : Pass) (line : Line) (reached : Reached) (new : Pass) : Type 0 where
-  pub places : (may : MayReadRest old.placing.builder.text old line reached false)
+  pub places : (may : MayReadRest old line reached false)
       → PlacesFor may.s new line.next (with_line may.s (blocks_before may.before) may.source)
   pub tables : new.tables ≡ old.tables
 
 -- it is none, which is remembered
 pub record IsNoDelimiterRow (old : Pass) (line : Line) (reached : Reached) (new : Pass) : Type 0 where
   pub same : new ≡ record old { tried = new.tried }
-  pub untabled : (may : MayReadRest old.placing.builder.text old line reached false)
+  pub untabled : (may : MayReadRest old line reached false)
       → IfParagraphLast may.s (IsUntabled may.s new line.start (reached_of may.s may.before may.source))
       may.before.last
 
 -- the rest of the line was read, and no cell was added to a table
-pub record ReadsRest (text : List ℕ) (old : Pass) (line : Line) (reached : Reached) (blank : Bool) (new : Pass)
-    : Type 0 where
-  pub stands : (may : MayReadRest text old line reached blank)
+pub record ReadsRest (old : Pass) (line : Line) (reached : Reached) (blank : Bool) (new : Pass) : Type 0 where
+  pub stands : (may : MayReadRest old line reached blank)
       → StandsFor may.s new line.next (with_line may.s (blocks_before may.before) may.source)
   pub tables : new.tables ≡ old.tables
 

@@ -91,7 +91,7 @@ pub record Stands (s : Source) (pass : Pass) (frames : List Frame) (inside : For
   pub source : source_of pass ≡ s
   pub unended : HasLast s pass frames inside last
   pub loose : IsLooseAs pass.looseness frames (with_last inside last)
-  pub blanks : BlanksKnown pass.looseness.blank_from 0 frames (with_last inside last)
+  pub blanks : BlanksKnown pass.looseness.blank_from frames (with_last inside last)
   pub before : lines_end pass.lines.items ≤ from
   pub unheld : pass.placing.builder.leaf ≡ false → pass.blanks.items ≡ []
   pub earlier : AreOpenedBefore from frames

@@ -11,8 +11,7 @@ ghost use Rattle.markdown_base.specs.Source.{Source, source_as};
 ghost use Rattle.markdown_lines.specs.Lines.{AllPass, is_in_blank_line, is_space_or_tab};
 ghost use Rattle.markdown_lines.specs.declared.position.Position.{Position};
 ghost use Rattle.markdown_plain.specs.Beginning.{IsMadeOf, MayRead, Reads};
-ghost use Rattle.markdown_plain.specs.Readable.{IsDelimiterRow, IsNoDelimiterRow, LastGoesOff, LastGoesOn};
-ghost use Rattle.markdown_plain.specs.Readable.{LeafGoesOn, LeafLeavesOff, MayGoOn, MayReadAsText, MayReadLine};
+ghost use Rattle.markdown_plain.specs.Readable.{GoesOnAs, IsDelimiterRow, IsNoDelimiterRow, MayReadAsText, MayReadLine};
 ghost use Rattle.markdown_plain.specs.Readable.{MayReadOn, MayReadRest, MayReadText, ReadsAsText, ReadsLine, ReadsRest};
 ghost use Rattle.markdown_plain.specs.ListLooseness.{blank_from};
 ghost use Rattle.markdown_plain.specs.OpenBlocks.{is_list};
@@ -27,15 +26,32 @@ use crate::placing::Placing;
 use markdown_base::block_parts::BlockParts;
 use markdown_base::item::{Item, ItemBody};
 use markdown_base::syntax::Syntax;
+use markdown_base::tag::MetadataBlockKind;
 use markdown_base::tree::Tree;
 use markdown_builder::open_block::OpenBlock;
 use markdown_lines::bytes::{byte_at, bytes_of, is_white};
+use markdown_lines::fence::Fence;
+use markdown_lines::html_kind::HtmlKind;
 use markdown_lines::line::{Line, is_space_or_tab, line_from};
 use markdown_lines::line_reader::LineReader;
 use markdown_lines::lines_ahead::LinesAhead;
 use markdown_lines::position::Position;
 use markdown_lines::space::read_space;
 use std::alloc::{AllocError, Global};
+
+/// The open leaf block that goes on in a line.
+#[derive(Clone, Copy, Drop)]
+enum Continued {
+    /// none, or a paragraph may
+    Nothing,
+    FencedCode(Fence),
+    Html(HtmlKind),
+    /// indented code, whose line begins at a place
+    IndentedCode(Position),
+    Metadata(MetadataBlockKind),
+    /// a table, of which the line is a row
+    Table,
+}
 
 /// Returns whether a line with this first byte after white space may begin a block other than a paragraph, or be the
 /// delimiter row of a table.
@@ -139,41 +155,67 @@ impl<'a> Pass<'a> {
         ensures reads { IfOk result (λ _. ReadsLine ahead.old.text.now self.old line self.new) }
     {
         let reached = reach(self, line);
-        if self.last_goes_on(line, reached, ahead)? {
-            self.see_content(line);
-            return Ok(());
+        let position = reached.position;
+        match self.what_goes_on(line, reached, ahead)? {
+            Continued::FencedCode(fence) => self.add_fenced(fence, line, position)?,
+            Continued::Html(kind) => self.add_html(kind, line, position)?,
+            Continued::IndentedCode(code) => self.add_indented(line, code)?,
+            Continued::Metadata(kind) => self.add_metadata(kind, line)?,
+            Continued::Table => self.add_row(line, reached.content)?,
+            Continued::Nothing => {
+                if reached.content >= line.stop {
+                    return self.read_blank(line, reached);
+                }
+                return self.read_filled(line, reached, ahead);
+            }
         }
-        if reached.content >= line.stop {
-            return self.read_blank(line, reached);
-        }
-        self.read_filled(line, reached, ahead)
+        self.see_content(line);
+        Ok(())
     }
 
-    /// Adds a line to the open leaf block, if that goes on in it, and returns whether it does.
+    /// Returns which open leaf block goes on in a line.
     #[inline(always)]
-    fn last_goes_on(
-        &mut self,
+    fn what_goes_on(
+        &self,
         line: Line,
         reached: Reached,
         ahead: &mut LinesAhead<'a>,
-    ) -> Result<bool, AllocError>
-        requires { MayReadOn ahead.old.text.now self.old line reached }
+    ) -> Result<Continued, AllocError>
+        requires may { MayReadOn self.now line reached }
+        requires text { ahead.old.text.now ≡ self.now.placing.builder.text }
         ensures ahead { ahead.new.text.now ≡ ahead.old.text.now }
-        ensures goes { IfOk result (λ goes. goes ≡ true
-            → LastGoesOn ahead.old.text.now self.old line reached self.new) }
-        ensures off { IfOk result (λ goes. goes ≡ false
-            → LastGoesOff ahead.old.text.now self.old line reached self.new) }
+        ensures goes_on { IfOk result (λ found. GoesOnAs self.now line reached found) }
     {
         if !reached.all {
-            return Ok(false);
+            return Ok(Continued::Nothing);
         }
-        if self.placing.is_in_leaf() {
-            return self.goes_on(line, reached);
+        let blank = reached.content >= line.stop;
+        if !self.placing.is_in_leaf() {
+            if !blank && self.is_in_table() && self.is_row(line, reached, ahead)? {
+                return Ok(Continued::Table);
+            }
+            return Ok(Continued::Nothing);
         }
-        if reached.content < line.stop && self.is_in_table() {
-            return self.read_row(line, reached, ahead);
+        match self.leaf {
+            LeafKind::Fenced(fence) => Ok(Continued::FencedCode(fence)),
+            LeafKind::Html(kind) => {
+                if blank && kind.ends_at_blank() {
+                    return Ok(Continued::Nothing);
+                }
+                Ok(Continued::Html(kind))
+            }
+            LeafKind::Indented => {
+                if blank {
+                    return Ok(Continued::Nothing);
+                }
+                let before = read_space(self.placing.text(), reached.position, line.stop, 4);
+                if before.columns < 4 {
+                    return Ok(Continued::Nothing);
+                }
+                Ok(Continued::IndentedCode(before.after))
+            }
+            LeafKind::Metadata(kind) => Ok(Continued::Metadata(kind)),
         }
-        Ok(false)
     }
 
     /// Reads a line that is not blank for the innermost blocks that continue in it, and in which no open leaf block goes
@@ -186,10 +228,10 @@ impl<'a> Pass<'a> {
         reached: Reached,
         ahead: &mut LinesAhead<'a>,
     ) -> Result<(), AllocError>
-        requires { MayReadRest ahead.old.text.now self.old line reached false }
+        requires may { MayReadRest self.old line reached false }
+        requires text { ahead.old.text.now ≡ self.old.placing.builder.text }
         ensures ahead { ahead.new.text.now ≡ ahead.old.text.now }
-        ensures reads { IfOk result (λ _.
-            ReadsRest ahead.old.text.now self.old line reached false self.new) }
+        ensures reads { IfOk result (λ _. ReadsRest self.old line reached false self.new) }
     {
         if is_text_from(self.placing.text(), reached.position, line.stop) {
             return self.read_text_line(line, reached.position.at, reached.depth);
@@ -205,7 +247,7 @@ impl<'a> Pass<'a> {
     /// Reads a line as the delimiter row of a table, where it is one for the last line of the open paragraph, and returns
     /// whether it is.
     fn read_delimiter_row(&mut self, line: Line, reached: Reached) -> Result<bool, AllocError>
-        requires { MayReadRest self.old.placing.builder.text self.old line reached false }
+        requires { MayReadRest self.old line reached false }
         ensures row { IfOk result (λ is. is ≡ true
             → IsDelimiterRow self.old line reached self.new) }
         ensures none { IfOk result (λ is. is ≡ false
@@ -238,41 +280,10 @@ impl<'a> Pass<'a> {
         }
     }
 
-    /// Adds a line to the open code or HTML block, if that continues in it, and returns whether it does.
-    fn goes_on(&mut self, line: Line, reached: Reached) -> Result<bool, AllocError>
-        requires may { MayGoOn self.old.placing.builder.text self.old line reached }
-        requires leaf { self.old.placing.builder.leaf ≡ true }
-        ensures goes { IfOk result (λ goes. goes ≡ true
-            → LeafGoesOn self.old line reached self.new) }
-        ensures off { IfOk result (λ goes. goes ≡ false
-            → LeafLeavesOff self.old line reached self.new) }
-    {
-        let blank = reached.content >= line.stop;
-        match self.leaf {
-            LeafKind::Fenced(fence) => self.add_fenced(fence, line, reached.position)?,
-            LeafKind::Html(kind) => {
-                if blank && kind.ends_at_blank() {
-                    return Ok(false);
-                }
-                self.add_html(kind, line, reached.position)?;
-            }
-            LeafKind::Indented => {
-                let before = read_space(self.placing.text(), reached.position, line.stop, 4);
-                if blank || before.columns < 4 {
-                    return Ok(false);
-                }
-                self.add_indented(line, before.after)?;
-            }
-            LeafKind::Metadata(kind) => self.add_metadata(kind, line)?,
-        }
-        Ok(true)
-    }
-
     /// Reads a line that is blank for the innermost blocks that continue in it.
     fn read_blank(&mut self, line: Line, reached: Reached) -> Result<(), AllocError>
-        requires { MayReadRest self.old.placing.builder.text self.old line reached true }
-        ensures { IfOk result (λ _. ReadsRest self.old.placing.builder.text self.old line reached
-            true self.new) }
+        requires { MayReadRest self.old line reached true }
+        ensures { IfOk result (λ _. ReadsRest self.old line reached true self.new) }
     {
         let in_code = match self.leaf {
             LeafKind::Indented => self.placing.is_in_leaf(),

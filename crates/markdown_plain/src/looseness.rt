@@ -52,8 +52,8 @@ impl Looseness {
         ensures begins { IfOk result (λ _. (frames : List Frame) (inside : Forest Block)
             (list item : Block) → IsLooseBefore self.old frames inside
             → frame.is_list list.kind ≡ true → frame.is_item item.kind ≡ true
-            → IsLooseAs self.new (frames ++ record { before = inside; block = list }
-            ∷ record { before = nil; block = item } ∷ []) nil) }
+            → IsLooseAs self.new (record { before = nil; block = item }
+            ∷ record { before = inside; block = list } ∷ frames) nil) }
         ensures same { IfOk result (λ _. self.new
             ≡ record self.old { lists = self.new.lists; item_is_empty = true }) }
     {
@@ -67,8 +67,8 @@ impl Looseness {
         ensures begins { (texts : List (List ℕ)) (frames : List Frame) (inside : Forest Block)
             (item : Block) → AreOpen texts blocks.now frames → AreNested frames
             → frame.innermost_is frame.is_list frames ≡ true → IsLooseAs self.old frames inside
-            → BlanksKnown self.old.blank_from 0 frames inside → frame.is_item item.kind ≡ true
-            → IsLooseAs self.new (frames ++ record { before = inside; block = item } ∷ []) nil }
+            → BlanksKnown self.old.blank_from frames inside → frame.is_item item.kind ≡ true
+            → IsLooseAs self.new (record { before = inside; block = item } ∷ frames) nil }
         ensures same { self.new ≡ record self.old { lists = self.new.lists; item_is_empty = true } }
     {
         if self.is_after_blank(blocks) {
@@ -85,7 +85,7 @@ impl Looseness {
         ensures begins { (texts : List (List ℕ)) (frames : List Frame) (inside : Forest Block)
             → AreOpen texts blocks.now frames → AreNested frames
             → frame.innermost_is frame.is_list frames ≡ false → IsLooseAs self.old frames inside
-            → (is_nil inside ≡ false → BlanksKnown self.old.blank_from 0 frames inside)
+            → (is_nil inside ≡ false → BlanksKnown self.old.blank_from frames inside)
             → IsLooseBefore self.new frames inside }
         ensures same { self.new
             ≡ record self.old { lists = self.new.lists; item_is_empty = false } }
@@ -100,7 +100,7 @@ impl Looseness {
     /// this one in its last item.
     pub fn close_list(&mut self) -> bool
         ensures ends { (frames : List Frame) (f : Frame) (inside : Forest Block)
-            → frame.is_list f.block.kind ≡ true → IsLooseAs self.old (frames ++ f ∷ []) inside
+            → frame.is_list f.block.kind ≡ true → IsLooseAs self.old (f ∷ frames) inside
             → (result ≡ defined.is_loose inside) × IsLooseAs self.new frames (forgotten f inside) }
         ensures same { self.new
             ≡ record self.old { lists = self.new.lists; item_is_empty = false } }

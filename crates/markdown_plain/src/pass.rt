@@ -1,12 +1,10 @@
 //! The state of the block pass between two lines, and the closing of blocks. Functions that return a `Result` fail only
 //! if an allocation fails.
-ghost use Rattle.std.specs.Prelude.{◌≡◌, ◌≤◌, [], ◌&&◌, false, not, length, IfOk, ℕ};
+ghost use Rattle.std.specs.Prelude.{◌≡◌, ◌≤◌, [], length, IfOk, ℕ};
 ghost use Rattle.std.specs.Option.{option_map};
-ghost use Rattle.markdown_base.specs.declared.item.ItemBody.TheVariants as body;
 ghost use Rattle.markdown_base.specs.Source.{source_as};
-ghost use Rattle.markdown_builder.specs.BuilderView.{BuilderView, innermost_block};
+ghost use Rattle.markdown_builder.specs.BuilderView.{innermost_block};
 ghost use Rattle.markdown_plain.specs.Closable.{AreClosable, MayCloseDown, MayEndLeaf, MayMakeRoom};
-ghost use Rattle.markdown_plain.specs.Fitting.{HasBody, PutsBlock, closed};
 ghost use Rattle.markdown_plain.specs.OpenBlocks.{has_leaf, innermost_is, is_list, without_leaf};
 ghost use Rattle.markdown_plain.specs.Paragraphs.{has_paragraph};
 ghost use Rattle.markdown_plain.specs.PassSteps.{ClosesBlock, ClosesDown, MakesRoom};
@@ -127,14 +125,13 @@ impl<'a> Pass<'a> {
         match innermost(&self.placing) {
             Some(ItemBody::List(_, character, first)) => {
                 let loose = self.looseness.close_list();
-                close_list(&mut self.placing, character, first, loose);
+                self.placing
+                    .change(ItemBody::List(!loose, character, first));
             }
-            Some(ItemBody::BlockQuote(_)) => {
-                self.placing.step_to(self.placed);
-                self.placing.close();
-            }
-            _ => self.placing.close(),
+            Some(ItemBody::BlockQuote(_)) => self.placing.step_to(self.placed),
+            _ => {}
         }
+        self.placing.close();
     }
 
     /// Ends the open leaf, and closes the open blocks except the outermost `depth`.
@@ -194,19 +191,4 @@ pub fn innermost(placing: &Placing<'_>) -> Option<ItemBody>
         Some(block) => Some(block.body),
         None => None,
     }
-}
-
-/// Closes the innermost open block, which is a list, loose or tight.
-#[tactic(auto, using(crate::proofs::LeafTreesLemmas::outer_of_opened))]
-fn close_list(placing: &mut Placing<'_>, character: u8, first: u64, loose: bool)
-    requires outside { placing.old.builder.leaf ≡ false }
-    requires some { placing.old.builder.blocks ≡ [] → ⊥ }
-    ensures closes { placing.new.builder ≡ closed placing.old.builder placing.new.builder.levels }
-    ensures tree { (settled : BuilderView)
-        × (settled ≡ record placing.old.builder { blocks = settled.blocks })
-        × HasBody placing.old.builder settled (body.List (not loose) character first)
-        × PutsBlock settled placing.new.builder }
-{
-    placing.change(ItemBody::List(!loose, character, first));
-    placing.close();
 }

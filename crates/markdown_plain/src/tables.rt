@@ -3,6 +3,7 @@
 ghost use Rattle.std.specs.Prelude.{◌≡◌, ◌≤◌, ◌<◌, ◌+◌, ◌-◌, ◌==◌, ◌&&◌, ◌||◌, ◌∷◌, [], ℕ, None, Some, List};
 ghost use Rattle.std.specs.Prelude.{false, true, not, length, min, slice_get, take, IfOk};
 ghost use Rattle.std.specs.Option.{is_some, option_map};
+ghost use Rattle.std.specs.Str.{IsCharBoundary};
 ghost use Rattle.markdown_builder.specs.Bodies.{is_leaf, is_plain_block};
 ghost use Rattle.markdown_builder.specs.EvenRows.{is_table_row, open_columns};
 ghost use Rattle.markdown_plain.specs.Fitting.{GoesOn};
@@ -21,14 +22,11 @@ ghost use Rattle.markdown_plain.specs.TableHeads.{BeginsNoTable, BeginsTable, Is
 ghost use Rattle.markdown_plain.specs.TableHeads.{MayBeginTable, TurnsToTable, last_of};
 ghost use Rattle.markdown_plain.specs.TextLines.{held_line};
 ghost use Rattle.markdown_plain.specs.OpenBlocks.{innermost_is, is_table};
-ghost use Rattle.markdown_plain.specs.TableRows.{AddsRow, IsCellIn, IsCounted, IsOnePiece, MayAddCell, MayAddRow};
+ghost use Rattle.markdown_plain.specs.TableRows.{AddsRow, IsCellIn, IsOnePiece, MayAddCell, MayAddRow};
 ghost use Rattle.markdown_plain.specs.TableRows.{PutsTrees, is_text_start, line_row, may_be_row};
 ghost use Rattle.markdown_block_rules.specs.BlockGrowth.{with_next_line};
 ghost use Rattle.markdown_plain.specs.ReachedLines as lines;
-ghost use Rattle.markdown_plain.specs.ReachedLines.{GoesOffAs, blocks_before};
-ghost use Rattle.markdown_plain.specs.Readable.{LastGoesOff, LastGoesOn};
-ghost use Rattle.markdown_plain.specs.ReachedTables.{MayReadRow, ReachesTable};
-ghost use Rattle.markdown_plain.specs.Standing.{PlacesFor};
+ghost use Rattle.markdown_plain.specs.ReachedTables.{ReachesTable, is_next_row};
 
 use crate::containers::{Reached, reach};
 use crate::paragraph::are_definitions;
@@ -346,43 +344,35 @@ impl<'a> Pass<'a> {
         Ok(())
     }
 
-    /// Adds a line to the open table, if it is a row that may be added, and returns whether it is: what ends a table is what
-    /// would end a paragraph that the line continued lazily.
-    pub fn read_row(
-        &mut self,
+    /// Returns whether a line with content, which reaches the open table, is a row that may be added to it: what ends a
+    /// table is what would end a paragraph that the line continued lazily.
+    pub fn is_row(
+        &self,
         line: Line,
         reached: Reached,
         ahead: &mut LinesAhead<'a>,
     ) -> Result<bool, AllocError>
-        requires { MayReadRow ahead.old.text.now self.old line reached }
+        requires { IsCharBoundary ahead.old.text.now line.stop }
         ensures ahead { ahead.new.text.now ≡ ahead.old.text.now }
-        ensures goes { IfOk result (λ is. is ≡ true
-            → LastGoesOn ahead.old.text.now self.old line reached self.new) }
-        ensures off { IfOk result (λ is. is ≡ false
-            → LastGoesOff ahead.old.text.now self.old line reached self.new) }
+        ensures value { IfOk result (λ is. (s : Source) (before : lines.Before)
+            (source : SourceLine) → ahead.old.text.now ≡ s.text
+            → ReachesTable s self.now line reached before source
+            → is ≡ is_next_row s self.now line reached before source) }
     {
         let mut reader = LineReader::new(self.alloc, ahead, self.syntax, line, false);
         let begun = reader.beginning(Position::new(reached.content), Before::Lazy)?;
-        if !is_text(&begun.start) {
-            return Ok(false);
-        }
-        self.add_row(line, begun.at)
+        Ok(is_text(&begun.start) && self.may_be_row(reached.content, line.stop))
     }
 
-    /// Adds a row to the open table, if a line has a cell and may have the cells that it lacks, and returns whether it is
-    /// one. Its first byte that is neither a space nor a tab is at the byte offset `start`, and begins nothing but text.
+    /// Adds a line to the open table as a row, which may have the cells that it lacks. Its first byte that is neither a
+    /// space nor a tab is at the byte offset `start`.
     // apart, so that lines outside tables take fewer instructions
     #[inline(never)]
-    pub fn add_row(&mut self, line: Line, start: usize) -> Result<bool, AllocError>
+    pub fn add_row(&mut self, line: Line, start: usize) -> Result<(), AllocError>
         requires { MayAddRow self.old.placing.builder (held_line line start) }
-        ensures value { IfOk result (λ added. added ≡ may_be_row self.old start line.stop) }
-        ensures nothing { IfOk result (λ added. added ≡ false → self.new ≡ self.old) }
-        ensures adds { IfOk result (λ added. added ≡ true
+        ensures { IfOk result (λ _. may_be_row self.old start line.stop ≡ true
             → AddsRow self.old self.new line start) }
     {
-        if !self.may_be_row(start, line.stop) {
-            return Ok(false);
-        }
         let row = HeldLine {
             start,
             stop: line.stop,
@@ -392,7 +382,7 @@ impl<'a> Pass<'a> {
         let columns = self.placing.builder.columns();
         let found = place_row(&mut self.placing, ItemBody::TableRow, row, self.syntax)?;
         let _fits = self.tables.add(columns.saturating_sub(found));
-        Ok(true)
+        Ok(())
     }
 
     /// Returns whether a line has a cell, from the byte offset `start` on, and may have those that it lacks. Its cells are

@@ -1,13 +1,11 @@
 -- The blocks that were looked at are the outermost.
-use Rattle.std.proofs.Common.{◌≡◌, ◌&&◌, ◌∷◌, [], Bool, Bor, ℕ, true, false, length, take, refl, sym, ap, ◌∙◌}
+use Rattle.std.proofs.Common.{◌≡◌, ◌∷◌, [], Bool, Bor, ℕ, false, length, take, refl, sym, ap, ◌∙◌}
+use Rattle.markdown_plain.proofs.Names.{list_all, ItemBody, OpenBlock}
 use Rattle.std.proofs.lemmas.Iterator.{YieldsList-from_slice, YieldsList-from_take}
 use Rattle.std.proofs.lemmas.Iterator.Consumers.{YieldsList-end, YieldsList-turn}
 use Rattle.std.proofs.lemmas.List.Folds.{list_all-append, list_all-map, list_all_at}
-use Rattle.std.specs.List.{list_all}
-use Rattle.markdown_base.specs.declared.item.ItemBody.{ItemBody}
-use Rattle.markdown_base.specs.declared.item.ItemBody.TheVariants as body
-use Rattle.markdown_builder.specs.declared.open_block.OpenBlock.{OpenBlock}
 use Rattle.markdown_plain.specs.OpenBlocks.{is_list}
+use Rattle.markdown_base.specs.declared.item.ItemBody.TheVariants as body
 use Rattle.markdown_plain.proofs.block_pass.are_lists.Goals as goal
 
 pub returns : goal.returns
@@ -20,11 +18,9 @@ returns c =
 
 pub loop-block-preserved : goal.loop-block-preserved
 loop-block-preserved c =
-    let all : list_all (λ (block : Bor OpenBlock). is_list block.now.body) c.loop-block.yielded ≡ true =
-    c.loop-block.invariant in
-    list_all-append (λ (block : Bor OpenBlock). is_list block.now.body) c.loop-block.yielded (c.in-Some.block ∷ [])
-    ∙ (ap (λ (test : Bool). test && (is_list c.in-Some.block.now.body && true)) all
-    ∙ ap (λ (b : ItemBody). is_list b && true) c.in-List.is)
+    let is = λ (block : Bor OpenBlock). is_list block.now.body in
+    let all = list_all-append is c.loop-block.yielded (c.in-Some.block ∷ []) in
+    rw (all, c.loop-block.invariant, c.in-List.is) refl
 
 no_list : (b : ItemBody) → ((tight : Bool) (character first : ℕ) → b ≡ body.List tight character first → ⊥)
     → is_list b ≡ false
@@ -34,8 +30,7 @@ no_list b other = refl
 -- the block that is no list is one of them
 pub returns-in_default : goal.returns-in_default
 returns-in_default c =
-    let block = c.in-Some.block.now in
-    let blocks = c.args.blocks.now in
+    let block = c.in-Some.block.now in let blocks = c.args.blocks.now in
     let turn = YieldsList-turn (YieldsList-from_take c.args.depth (YieldsList-from_slice blocks (cc)) (cc))
     c.loop-block.yielded _ c.loop-block.yielded_by _ _ _ c.in-Some.is c.next.ensures.steps in
     sym (list_all_at (λ (b : OpenBlock). is_list b.body) (take c.args.depth blocks) (length c.loop-block.yielded) block

@@ -1,9 +1,7 @@
 -- All lines were read: no block is open then, and only white space is left.
-use Rattle.std.proofs.Common.{◌≡◌, [], length, rules, subst, sym}
+use Rattle.std.proofs.Common.{◌≡◌, [], length, rules}
 use Rattle.markdown_base.specs.Source.{Source}
-use Rattle.markdown_lines.specs.Lines.{AllPass, is_in_blank_line}
 use Rattle.markdown_block_rules.specs.BlockGrowth.{blocks_of}
-use Rattle.markdown_plain.specs.declared.placing.Placing.{Placing}
 use Rattle.markdown_plain.specs.Readable.{MayReadText}
 use Rattle.markdown_plain.specs.Settled.{IsBuilt}
 use Rattle.markdown_plain.proofs.WholeTextsLemmas.{nothing_counted, nothing_stands}
@@ -29,24 +27,20 @@ read_lines-requires c = may_read (goal.at.read_lines-requires c).In_ok-pass
 pub step_to-requires : goal.step_to-requires
 step_to-requires c =
     let may = may_read (goal.at.step_to-requires c).In_ok-pass in
-    let all = subst (λ (p : Placing). AllPass is_in_blank_line p.builder.text p.builder.at (length p.builder.text))
-    (sym c.into_placing-placing.ensures) c.in_ok-read_lines.ensures.left in
     let end : length c.into_placing-placing.result.builder.text ≡ length c.as_bytes.result.now = search rules in
     record {
       ahead = (search rules, search rules);
-      white = λ none. subst (AllPass is_in_blank_line c.into_placing-placing.result.builder.text
-          c.into_placing-placing.result.builder.at) end all;
+      white = λ none. rw (← end, c.into_placing-placing.ensures) c.in_ok-read_lines.ensures.left;
     }
 
 -- all blocks are made
 all_made : (c : goal.After-step_to) (may : MayReadText c.in_ok-pass.pass)
     → IsBuilt may.s c.step_to.new.self.builder [] (blocks_of may.s)
 all_made c may =
-    let built = c.in_ok-read_lines.ensures.built may in
-    built_at may.s c.into_placing-placing.result.builder c.step_to.new.self.builder
-    (length c.into_placing-placing.result.builder.text) [] (blocks_of may.s)
-    (search rules)
-    (subst (λ (p : Placing). IsBuilt may.s p.builder [] (blocks_of may.s)) (sym c.into_placing-placing.ensures) built)
+    let view = c.into_placing-placing.result.builder in
+    let built : IsBuilt may.s view [] (blocks_of may.s) =
+    rw c.into_placing-placing.ensures (c.in_ok-read_lines.ensures.built may) in
+    built_at may.s view c.step_to.new.self.builder (length view.text) [] (blocks_of may.s) (search rules) built
 
 pub returns-clause-built : goal.returns-clause-built
 unfolding may_read

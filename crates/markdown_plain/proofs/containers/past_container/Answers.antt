@@ -9,11 +9,8 @@ use Rattle.markdown_plain.proofs.containers.past_container.Goals as goal
 
 pub returns-then-take_part : goal.returns-then-take_part
 returns-then-take_part c =
-    let text = c.args.text.now in
-    let stop = c.args.line.stop in
-    let gfm = not c.args.old in
-    let here = left_from text c.args.reached.position stop in
-    let after = line_left c.take_part.new.line in
+    let text = c.args.text.now in let stop = c.args.line.stop in let gfm = not c.args.old in
+    let here = left_from text c.args.reached.position stop in let after = line_left c.take_part.new.line in
     let part : Some after ≡ past_part gfm c.args.body here =
     c.if-take_part.ensures.part ∙ ap (past_part gfm c.args.body) c.reader-rest.ensures in
     let own = part_reaches text stop gfm c.args.body here after refl part in

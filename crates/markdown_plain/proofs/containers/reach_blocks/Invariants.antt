@@ -9,11 +9,9 @@ abbrev pub invariant-blocks-2 : goal.invariant-blocks-2
 invariant-blocks-2 l = record {
   within : l.reached.depth ≤ length l.blocks;
   all : l.reached.all ≡ true;
-  ahead : l.stretches.known ≡ true
-      → l.starts ≡ starts_ahead l.stretches.old_notes l.reached.depth l.blocks;
+  ahead : l.stretches.known ≡ true → l.starts ≡ starts_ahead l.stretches.old_notes l.reached.depth l.blocks;
   goes_on : reach_from l.stretches.old_notes l.item_is_empty l.line.stop (drop l.reached.depth l.blocks)
-      (reach_of l.text l.line.stop l.reached)
-      ≡ reach_from l.stretches.old_notes l.item_is_empty l.line.stop l.blocks
+      (reach_of l.text l.line.stop l.reached) ≡ reach_from l.stretches.old_notes l.item_is_empty l.line.stop l.blocks
       (reach_start (whole_line l.text l.line));
 }
 

@@ -9,14 +9,12 @@ use Rattle.markdown_plain.proofs.leaves.add_code.Goals as goal
 pub returns-then-line : goal.returns-then-line
 returns-then-line c =
     line_over _ _ (body.Text false) c.args.line
-    (owed_added c.args.placing.now c.step_to.new.self c.add_owed.new.self c.args.line.start c.args.line.owed
-    c.step_to.ensures.steps c.in_ok-add_owed.ensures.owed c.in_ok-add_owed.ensures.nothing)
-    (grind (arith, nat_tests, c.if-line.true))
+    (owed_added c.args.placing.now _ _ _ _ c.step_to.ensures.steps c.in_ok-add_owed.ensures.owed
+    c.in_ok-add_owed.ensures.nothing) (grind (arith, nat_tests, c.if-line.true))
 
 pub returns : goal.returns
 returns c =
     IfOk-weaker c.add_inline.result _ _ (λ done appends.
     line_added c.args.placing.now.builder c.add_owed.new.self.builder _ (body.Text false) c.args.line
-    (owed_added c.args.placing.now c.step_to.new.self c.add_owed.new.self c.args.line.start c.args.line.owed
-    c.step_to.ensures.steps c.in_ok-add_owed.ensures.owed c.in_ok-add_owed.ensures.nothing)
-    (grind (arith, nat_tests, c.if-line.false)) appends) c.add_inline.ensures.appends
+    (owed_added c.args.placing.now _ _ _ _ c.step_to.ensures.steps c.in_ok-add_owed.ensures.owed
+    c.in_ok-add_owed.ensures.nothing) (grind (arith, nat_tests, c.if-line.false)) appends) c.add_inline.ensures.appends

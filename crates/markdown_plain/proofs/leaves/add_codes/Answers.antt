@@ -3,8 +3,8 @@ use Rattle.std.proofs.Common.{◌≡◌, false, length, sym, subst, rules}
 use Rattle.std.proofs.Math.Seq.{take-length}
 use Rattle.std.proofs.lemmas.List.{take_more}
 use Rattle.std.proofs.lemmas.Option.{slice_get-get_or}
-use Rattle.markdown_base.specs.declared.item.ItemBody.TheVariants as body
 use Rattle.markdown_plain.specs.LeafTrees.{AddsLines}
+use Rattle.markdown_base.specs.declared.item.ItemBody.TheVariants as body
 use Rattle.markdown_plain.proofs.ReadyLinesLemmas.{comes_next, goes_on_fits}
 use Rattle.markdown_plain.proofs.LeafTreesLemmas.{adds_more, adds_none}
 use Rattle.markdown_plain.proofs.leaves.add_codes.Goals as goal

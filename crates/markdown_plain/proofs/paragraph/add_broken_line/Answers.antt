@@ -1,23 +1,17 @@
 -- A line and the break after it are its items; there is none where nothing is left of it.
-use Rattle.std.proofs.Common.{◌≡◌, ◌∷◌, [], ◌∙◌, ℕ, List, ap, arith, rules}
+use Rattle.std.proofs.Common.{◌∷◌, [], ◌∙◌, ap, arith, rules}
 use Rattle.markdown_builder.specs.BuilderView.{BuilderView, with_items}
 use Rattle.std.proofs.lemmas.Result.{IfOk-weaker}
 use Rattle.markdown_builder.specs.Shown.{plain_item}
-use Rattle.markdown_items.specs.ContentItems.{content_items}
-use Rattle.markdown_items.specs.LineItems.{item_syntax}
-use Rattle.markdown_lines.specs.LineBreaks.{IsLineBreak}
-use Rattle.markdown_lines.specs.declared.held_line.HeldLine.{HeldLine}
-use Rattle.markdown_lines.specs.declared.line_break.LineBreak.{LineBreak}
-use Rattle.markdown_base.specs.Source.{Source}
 use Rattle.markdown_plain.proofs.ParagraphTreesLemmas.{empty_line, line_and_break, appends_twice, item_appends}
-use Rattle.markdown_plain.proofs.ParagraphTreesLemmas.{step_appends}
-use Rattle.markdown_plain.specs.Closable.{IsInText}
-use Rattle.markdown_plain.proofs.ClosableLemmas.{IsBreakIn, ahead_of, break_in, inside_leaf, still_open}
+use Rattle.markdown_plain.proofs.ParagraphTreesLemmas.{may_go_on, step_appends}
+use Rattle.markdown_plain.proofs.ClosableLemmas.{IsBreakIn, break_in}
 use Rattle.markdown_plain.proofs.ReadyLinesLemmas.{may_step}
+use Rattle.markdown_plain.proofs.paragraph.add_broken_line.Goals.{After-line_break-between}
 use Rattle.markdown_plain.proofs.paragraph.add_broken_line.Goals as goal
 
 pub returns-then-line-clause-items : goal.returns-then-line-clause-items
-returns-then-line-clause-items c = λ source is run at.
+returns-then-line-clause-items c = λ source is run here.
     let steps = c.step_to.ensures.steps in
     record {
       items = ap (λ (b : BuilderView). b.levels) steps ∙ empty_line c.args.placing.now.builder.levels
@@ -34,24 +28,15 @@ returns-clause-appends c =
 
 pub returns-clause-items : goal.returns-clause-items
 returns-clause-items c =
-    let text = c.args.placing.now.builder.text in
-    let s : Source = record { text = text; syntax = c.args.syntax } in
-    IfOk-weaker c.add_inline.result _ _ (λ done appends source is.
-    let stepped = c.step_to-2.ensures.steps in
-    let read = c.in_ok-add_items.ensures.items in
-    λ run at.
-    let first : c.add_items.new.self.builder.levels ≡ with_items c.args.placing.now.builder.levels (content_items
-    text (item_syntax c.args.syntax) c.args.line.start c.line_break-between.result.text_end) =
-    read run ∙ ap (λ n. with_items c.args.placing.now.builder.levels (content_items
-    text (item_syntax c.args.syntax) n c.line_break-between.result.text_end)) at in
-    let second : c.add_inline.new.self.builder.levels ≡ with_items c.add_items.new.self.builder.levels
-    (plain_item c.line_break-between.result.start c.args.line.next c.line_break-between.result.body ∷ []) =
-    ap (λ (b : BuilderView). b.levels) appends ∙ ap (λ (b : BuilderView). with_items b.levels
-    (plain_item b.at c.args.line.next c.line_break-between.result.body ∷ [])) stepped in
+    IfOk-weaker c.add_inline.result _ _ (λ done appends source is run here.
+    let between = c.line_break-between.result in
+    let second = ap (λ (b : BuilderView). b.levels) appends ∙ ap (λ (b : BuilderView). with_items b.levels
+    (plain_item b.at c.args.line.next between.body ∷ [])) c.step_to-2.ensures.steps in
     record {
       items = line_and_break c.args.placing.now.builder.levels c.add_items.new.self.builder.levels
-          c.add_inline.new.self.builder.levels s c.args.line source c.line_break-between.result is
-          (search rules) (search rules) (search rules) first second;
+          c.add_inline.new.self.builder.levels
+          (record { text = c.args.placing.now.builder.text; syntax = c.args.syntax }) c.args.line source between is
+          (search rules) (search rules) (search rules) (rw here at (c.in_ok-add_items.ensures.items run)) second;
       over = ap (λ (b : BuilderView). b.run) appends;
     }) c.add_inline.ensures.appends
 
@@ -66,49 +51,30 @@ line_break-between-requires c =
     record { ordered = c.requires.line.content; boundary = rw c.text-text.ensures c.requires.line.stop }
 
 -- the content ends before the break, between characters
-break_of : (text same : List ℕ) (line : HeldLine) (between : LineBreak) → same ≡ text → IsInText text line
-    → IsLineBreak same line.start line.stop between → IsBreakIn text line.start line.stop between
-break_of text same line between e is broken =
-    break_in text line.start line.stop between is.stop is.content (rw e at broken)
+between : (c : After-line_break-between) → IsBreakIn c.args.placing.now.builder.text c.args.line.start
+    c.args.line.stop c.line_break-between.result
+between c =
+    break_in c.args.placing.now.builder.text c.args.line.start c.args.line.stop c.line_break-between.result
+    c.requires.line.stop c.requires.line.content (rw c.text-text.ensures at c.line_break-between.ensures.value)
 
 pub add_items-requires : goal.add_items-requires
 add_items-requires c =
-    let between = break_of c.args.placing.now.builder.text c.text-text.result.now c.args.line
-    c.line_break-between.result c.text-text.ensures c.requires.line c.line_break-between.ensures.value in
-    record {
-      inside = c.requires.inside.leaf;
-      ahead = (omega (arith, c.requires.ahead, between.low), between.end);
-    }
+    let between = between (goal.at.add_items-requires c).After-line_break-between in
+    record { inside = c.requires.inside.leaf; ahead = (omega (arith, c.requires.ahead, between.low), between.end) }
 
 -- the break begins after the content
 pub step_to-requires-2 : goal.step_to-requires-2
 step_to-requires-2 c =
-    let old = c.args.placing.now.builder in
-    let between = break_of old.text c.text-text.result.now c.args.line c.line_break-between.result c.text-text.ensures
-    c.requires.line c.line_break-between.ensures.value in
-    let read = c.in_ok-add_items.ensures.appends.goes_on in
-    let begun = still_open old c.add_items.new.self.builder (ap (λ (b : BuilderView). b.leaf) read)
-    (ap (λ (b : BuilderView). b.blocks) read) c.requires.inside in
-    record {
-      ahead = ahead_of old.text c.line_break-between.result.text_end _ c.add_items.new.self.builder
-          (ap (λ (b : BuilderView). b.text) read) (ap (λ (b : BuilderView). b.at) read) between.ordered between.start;
-      white = inside_leaf _ _ begun;
-    }
+    let between = between (goal.at.step_to-requires-2 c).After-line_break-between in
+    may_go_on c.in_ok-add_items.ensures.appends c.requires.inside between.ordered between.start
 
 pub add_inline-requires : goal.add_inline-requires
 add_inline-requires c =
-    let old = c.args.placing.now.builder in
-    let line = c.requires.line in
-    let between = break_of old.text c.text-text.result.now c.args.line c.line_break-between.result c.text-text.ensures
-    line c.line_break-between.ensures.value in
-    let read = c.in_ok-add_items.ensures.appends.goes_on in
-    let stepped = c.step_to-2.ensures.steps in
+    let between = between (goal.at.add_inline-requires c).After-line_break-between in
+    let stepped = appends_twice c.in_ok-add_items.ensures.appends (step_appends c.step_to-2.ensures.steps) in
     record {
       settled = c.line_break-between.ensures.settled;
-      inside = ap (λ (b : BuilderView). b.leaf) stepped
-          ∙ (ap (λ (b : BuilderView). b.leaf) read ∙ c.requires.inside.leaf);
-      ahead = ahead_of old.text c.line_break-between.result.start c.args.line.next c.step_to-2.new.self.builder
-          (ap (λ (b : BuilderView). b.text) c.step_to-2.ensures.steps ∙ ap (λ (b : BuilderView). b.text) read)
-          (ap (λ (b : BuilderView). b.at) stepped)
-          (omega (arith, between.high, line.ending)) line.next;
+      inside = ap (λ (b : BuilderView). b.leaf) stepped.goes_on ∙ c.requires.inside.leaf;
+      ahead = (may_go_on stepped c.requires.inside (omega (arith, between.high, c.requires.line.ending))
+          c.requires.line.next).ahead;
     }

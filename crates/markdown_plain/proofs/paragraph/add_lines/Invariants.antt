@@ -1,13 +1,10 @@
 -- The lines before the number were appended: what is left of the lines makes the items of all.
 use Rattle.std.proofs.Common.{◌≡◌, ◌<◌, List, None, drop}
+use Rattle.markdown_plain.proofs.Names.{with_items, SourceLine, AreTextLines, end_of}
 use Rattle.std.specs.Prelude.{◌==◌, if◌then◌else◌}
-use Rattle.markdown_builder.specs.BuilderView.{with_items}
-use Rattle.markdown_lines.specs.SourceLines.{SourceLine}
 use Rattle.markdown_block_rules.specs.BlockRules.{before_braces}
 use Rattle.markdown_plain.specs.LeafTrees.{Appends}
 use Rattle.markdown_plain.specs.Closable.{HasRoomFor}
-use Rattle.markdown_plain.specs.HeldSources.{AreTextLines}
-use Rattle.markdown_plain.specs.Paragraphs.{end_of}
 use Rattle.markdown_plain.specs.ParagraphItems.{HaveEnds, IsLeft, text_items}
 use Rattle.markdown_plain.proofs.paragraph.add_lines.Given as goal
 

@@ -1,10 +1,6 @@
 -- One definition more, and no line left.
-use Rattle.std.proofs.Common.{[], ◌≡◌, List, ap, arith, subst, ◌+◌, ◌-◌, drop, length, slice_range}
-use Rattle.std.proofs.lemmas.List.{length-drop, take_all}
-use Rattle.markdown_builder.specs.BuilderView.{BuilderView}
-use Rattle.markdown_lines.specs.SourceLines.{SourceLine}
-use Rattle.markdown_plain.specs.HeldSources.{IsParagraph}
-use Rattle.markdown_lines.specs.DefinitionRules.{divided}
+use Rattle.std.proofs.Common.{◌≡◌, List, ap, arith, ◌+◌, ◌-◌, drop, length, slice_range, length-drop, take_all}
+use Rattle.markdown_plain.proofs.Names.{BuilderView, SourceLine, IsParagraph}
 use Rattle.markdown_plain.specs.ParagraphSteps.{TakesLines}
 use Rattle.markdown_plain.specs.TakenDefinitions.{TakesDefinitions}
 use Rattle.markdown_plain.proofs.DefinitionsLemmas.{is_divided, none_left, takes_more}
@@ -38,34 +34,20 @@ definitions_taken : (c : In_ok-more) (sources : List SourceLine)
     → TakesDefinitions c.args.names c.args.placing.now.builder c.take_definition.new.placing.builder c.args.lines.now
     sources (c.in_ok-more.more + c.definitions.taken)
 definitions_taken c sources is =
-    takes_more c.args.names c.args.placing.now.builder c.definitions.placing.builder
-    c.take_definition.new.placing.builder c.args.lines.now sources c.definitions.taken c.in_ok-more.more (same_text c)
-    (c.definitions.invariant.takes sources is)
+    takes_more (same_text c) (c.definitions.invariant.takes sources is)
     (rw (left c) at (c.in_ok-more.ensures.takes (drop c.definitions.taken sources) (paragraph_left c sources is)))
 
 pub definitions-preserved : goal.definitions-preserved
 definitions-preserved c =
     let before = (goal.at.definitions-preserved c).In_ok-more in
-    let old = c.args.placing.now.builder in
-    let new = c.take_definition.new.placing.builder in
-    let lines = c.args.lines.now in
     let count : c.in_ok-more.more + c.definitions.taken ≡ c.saturating_add-taken.result =
     omega (arith, (lines_taken before).within, c.saturating_add-taken.ensures) in
-    record {
-      lines = subst (TakesLines old new lines) count (lines_taken before);
-      takes = λ (sources : List SourceLine) (is : IsParagraph old.text lines sources).
-          subst (TakesDefinitions c.args.names old new lines sources) count (definitions_taken before sources is);
-    }
+    rw (← count) (record { lines = lines_taken before; takes = definitions_taken before })
 
 pub returns-after-definitions-clause-divides : goal.returns-after-definitions-clause-divides
-returns-after-definitions-clause-divides c =
-    λ (sources : List SourceLine) (is : IsParagraph c.args.placing.now.builder.text c.args.lines.now sources).
-    let old = c.args.placing.now.builder in
-    let lines = c.args.lines.now in
-    let taken = c.definitions.taken in
+returns-after-definitions-clause-divides c = λ sources is.
     let takes = c.definitions.invariant.takes sources is in
-    is_divided c.args.names old c.definitions.placing.builder lines sources taken takes
-    (none_left c.args.names old.text lines sources taken takes.left.are (omega (arith, c.definitions-test.false)))
+    is_divided takes (none_left takes (omega (arith, c.definitions-test.false)))
 
 -- nothing more was taken
 none_more : (c : goal.Then-more-eq0) → c.in_ok-more.more + c.definitions.taken ≡ c.definitions.taken
@@ -73,19 +55,10 @@ none_more c = omega (arith, c.if-more-eq0.true)
 
 pub returns-then-more-eq0-clause-lines : goal.returns-then-more-eq0-clause-lines
 returns-then-more-eq0-clause-lines c =
-    subst (TakesLines c.args.placing.now.builder c.take_definition.new.placing.builder c.args.lines.now) (none_more c)
-    (lines_taken (goal.at.returns-then-more-eq0-clause-lines c).In_ok-more)
+    rw (none_more c) at (lines_taken (goal.at.returns-then-more-eq0-clause-lines c).In_ok-more)
 
 pub returns-then-more-eq0-clause-divides : goal.returns-then-more-eq0-clause-divides
-returns-then-more-eq0-clause-divides c =
-    λ (sources : List SourceLine) (is : IsParagraph c.args.placing.now.builder.text c.args.lines.now sources).
+returns-then-more-eq0-clause-divides c = λ sources is.
     let before = (goal.at.returns-then-more-eq0-clause-divides c).In_ok-more in
-    let old = c.args.placing.now.builder in
-    let new = c.take_definition.new.placing.builder in
-    let taken = c.definitions.taken in
-    is_divided c.args.names old new c.args.lines.now sources taken
-    (subst (TakesDefinitions c.args.names old new c.args.lines.now sources) (none_more c)
-    (definitions_taken before sources is)) (subst (λ t. divided c.args.names t (drop taken sources)
-    ≡ record { definitions = []; lines = drop taken sources }) (same_text before)
-    (c.in_ok-more.ensures.over (omega (arith, c.if-more-eq0.true)) (drop taken sources)
-    (paragraph_left before sources is)))
+    is_divided (rw (none_more c) at (definitions_taken before sources is)) (rw (same_text before) at
+    (c.in_ok-more.ensures.over (omega (arith, c.if-more-eq0.true)) _ (paragraph_left before sources is)))

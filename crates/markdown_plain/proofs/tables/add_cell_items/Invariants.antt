@@ -1,10 +1,8 @@
 -- The text stays, the cell goes on, and the pieces that are left make its other items.
 use Rattle.std.proofs.Common.{◌≡◌, ◌-◌, ◌<◌, None, false}
-use Rattle.markdown_builder.specs.BuilderView.{with_items}
+use Rattle.markdown_plain.proofs.Names.{with_items, GoesOn, HasMoreTexts}
 use Rattle.markdown_items.specs.LineItems.{item_syntax}
 use Rattle.markdown_block_rules.specs.LineContents.{cell_items}
-use Rattle.markdown_plain.specs.Fitting.{GoesOn}
-use Rattle.markdown_plain.specs.LeafTrees.{HasMoreTexts}
 use Rattle.markdown_plain.specs.TableRows.{IsOnePiece}
 use Rattle.markdown_plain.proofs.ShownRowsLemmas.{AwaitsPieces, MayAddPiece}
 use Rattle.markdown_plain.proofs.tables.add_cell_items.Given as goal

@@ -1,16 +1,9 @@
 -- No delimiter row; no head; both.
-use Rattle.std.proofs.Common.{◌≡◌, ◌∙◌, List, Option, None, ap, arith, if◌then◌else◌, sym}
-use Rattle.std.specs.Option.{option_map, option_map_or}
-use Rattle.std.specs.declared.vec.Vec.{Vec}
-use Rattle.std.specs.declared.alloc.Global.{Global}
-use Rattle.markdown_base.specs.declared.tag.Alignment.{Alignment}
-use Rattle.markdown_base.specs.Source.{Source}
-use Rattle.markdown_lines.specs.SourceLines.{SourceLine}
-use Rattle.markdown_lines.specs.declared.held_line.HeldLine.{HeldLine}
-use Rattle.markdown_block_rules.specs.TableLines.{fitting, further_line}
-use Rattle.markdown_plain.specs.declared.pass.Pass.{Pass}
+use Rattle.std.proofs.Common.{◌≡◌, ◌∙◌, List, Option, ap, arith, sym, option_map, Vec, Global}
+use Rattle.markdown_plain.proofs.Names.{Alignment, Source, SourceLine, further_line}
+use Rattle.markdown_block_rules.specs.TableLines.{fitting}
 use Rattle.markdown_plain.specs.TableHeads.{FollowsLast}
-use Rattle.markdown_plain.proofs.PlacedTablesLemmas.{found_alignments, turned_on}
+use Rattle.markdown_plain.proofs.PlacedTablesLemmas.{turned_on}
 use Rattle.markdown_plain.proofs.ReadyLinesLemmas.{may_step}
 use Rattle.markdown_plain.proofs.DelimiterRowsLemmas.{far_fits, last_is, none_begun, other_fits, read_fits, tried_then}
 use Rattle.markdown_plain.proofs.pass.Pass.begin_table.Goals.{then-space-ge4-via-then-space-ge4}
@@ -22,8 +15,7 @@ use Rattle.markdown_plain.proofs.pass.Pass.begin_table.Goals as goal
 
 pub returns-then-space-ge4-clause-none : goal.returns-then-space-ge4-clause-none
 returns-then-space-ge4-clause-none c = λ _. none_begun (λ s before from l follows.
-    let space = rw c.text-text.ensures at c.read_space-space.ensures.value in
-    let read = c.read_space-space.result in
+    let space = rw c.text-text.ensures at c.read_space-space.ensures.value in let read = c.read_space-space.result in
     elim c.then-space-ge4.branch [
       | then-space-ge4-via-then-space-ge4 w ↦ far_fits follows read space w.if-space-ge4.true
       | then-space-ge4-via-else-space-ge4+then-not-begins_delimiter_row w ↦ other_fits follows read space
@@ -41,27 +33,25 @@ returns-in_default-clause-none c = λ _. none_begun (λ s before from l follows.
 abbrev items : Option (Vec Alignment Global) → Option (List Alignment)
 items found = option_map (λ (alignments : Vec Alignment Global). alignments.items) found
 
-fits : (c : In_ok-alignments) (s : Source) (before : List SourceLine) (from l : SourceLine)
+fits : (c : In_ok-alignments) {s : Source} {before : List SourceLine} {from l : SourceLine}
     → FollowsLast s c.args.self.now c.args.line c.args.position before from l
     → items c.in_ok-alignments.field-0 ≡ fitting s from (further_line s l)
-fits c s before from l follows =
+fits c follows =
     read_fits follows c.read_space-space.result (rw c.text-text.ensures at c.read_space-space.ensures.value)
-    c.in-Some.head (items c.in_ok-alignments.field-0) c.args.position.before_stop (omega (arith, c.if-space-ge4.false))
-    (sym c.in-Some.is ∙ c.last_line.ensures) (rw c.text-text.ensures at c.in_ok-alignments.ensures)
+    c.args.position.before_stop (omega (arith, c.if-space-ge4.false)) (sym c.in-Some.is ∙ c.last_line.ensures)
+    (rw c.text-text.ensures at c.in_ok-alignments.ensures)
 
 pub returns-in_default-2-clause-none : goal.returns-in_default-2-clause-none
 returns-in_default-2-clause-none c = λ _. none_begun (λ s before from l follows.
-    sym (fits (goal.at.returns-in_default-2-clause-none c).In_ok-alignments s before from l follows)
-    ∙ ap items c.in_default-2.is)
+    sym (fits (goal.at.returns-in_default-2-clause-none c).In_ok-alignments follows) ∙ ap items c.in_default-2.is)
 
 pub returns-then-not-branch-clause-none : goal.returns-then-not-branch-clause-none
 returns-then-not-branch-clause-none c = λ _. record {
   same = c.in_ok-may_be_head.ensures.same;
   fits = λ s before from l follows.
-      let last = last_is c.in-Some.head follows (sym c.in-Some.is ∙ c.last_line.ensures) in
-      let known = fits (goal.at.returns-then-not-branch-clause-none c).In_ok-alignments s before from l follows in (
-        ap (λ test. if test then fitting s from (further_line s l) else None)
-            (sym (sym c.if-not-branch.true ∙ c.in_ok-may_be_head.ensures.value s before from last)),
+      let last = last_is follows (sym c.in-Some.is ∙ c.last_line.ensures) in
+      let known = fits (goal.at.returns-then-not-branch-clause-none c).In_ok-alignments follows in (
+        rw (← c.in_ok-may_be_head.ensures.value s before from last, c.if-not-branch.true),
         tried_then follows (sym (ap items c.in-Some-2.is) ∙ known)
             (c.in_ok-may_be_head.ensures.tried s before from last c.if-not-branch.true),
       );
@@ -69,33 +59,25 @@ returns-then-not-branch-clause-none c = λ _. record {
 
 pub open_table-requires : goal.open_table-requires
 open_table-requires c =
-    rw c.in_ok-may_be_head.ensures.same (record {
-      outside = c.requires.outside;
-      head = sym c.last_line.ensures ∙ c.in-Some.is;
-      ahead = c.requires.ahead;
-      task = c.requires.task;
-    })
+    rw c.in_ok-may_be_head.ensures.same (assumption (c.requires, sym c.last_line.ensures ∙ c.in-Some.is))
 
 -- the paragraph ends with the head, before the end of the delimiter row
 pub step_to-requires : goal.step_to-requires
 step_to-requires c =
-    let same = c.in_ok-may_be_head.ensures.same in
-    let table = c.in_ok-open_table.ensures in
-    let last = sym c.last_line.ensures ∙ c.in-Some.is in
-    let end = ap (λ (line : Option HeldLine). option_map_or (λ (l : HeldLine). l.next) line 0) last in
-    may_step c.open_table.new.self.placing.builder c.args.line.next (omega (arith, table.here, end, c.requires.before))
-    (rw (table.text ∙ ap (λ (p : Pass). p.placing.builder.text) same) c.requires.next) table.some
+    let same = c.in_ok-may_be_head.ensures.same in let table = c.in_ok-open_table.ensures in
+    let before = rw (sym c.last_line.ensures ∙ c.in-Some.is) at c.requires.before in
+    may_step c.open_table.new.self.placing.builder c.args.line.next (omega (arith, table.here, before))
+    (rw (table.text, same) c.requires.next) table.some
 
 -- the table, open up to the end of the line
 pub returns-clause-begins : goal.returns-clause-begins
 returns-clause-begins c = λ _. record {
   found = c.in-Some-2.alignments.items;
   fits = λ s before from l follows.
-      let last = last_is c.in-Some.head follows (sym c.in-Some.is ∙ c.last_line.ensures) in
-      found_alignments s before from l c.in-Some-2.alignments.items
-      (sym (ap items c.in-Some-2.is) ∙ fits (goal.at.returns-clause-begins c).In_ok-alignments s before from l follows)
-      (sym c.if-not-branch.false ∙ c.in_ok-may_be_head.ensures.value s before from last);
-  table = turned_on c.args.self.now c.may_be_head.new.self c.open_table.new.self c.step_to.new.self c.in-Some.head.next
-      c.args.line.next c.in-Some-2.alignments.items c.in_ok-may_be_head.ensures.same c.in_ok-open_table.ensures
+      let last = last_is follows (sym c.in-Some.is ∙ c.last_line.ensures) in
+      let may = c.in_ok-may_be_head.ensures.value s before from last in
+      let known = fits (goal.at.returns-clause-begins c).In_ok-alignments follows in
+      rw (← may, c.if-not-branch.false, ← known, c.in-Some-2.is);
+  table = turned_on c.step_to.new.self c.in_ok-may_be_head.ensures.same c.in_ok-open_table.ensures
       c.step_to.ensures.steps;
 }

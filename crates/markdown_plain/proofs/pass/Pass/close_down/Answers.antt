@@ -1,11 +1,7 @@
 -- A turn closes the innermost block, which is not one of the outermost blocks that stay.
 use Rattle.std.proofs.Common.{◌≡◌, ◌+◌, ◌-◌, suc, ap, sym, subst, length, arith, List}
+use Rattle.markdown_plain.proofs.Names.{BuilderView, OpenBlock, AreClosable, without_leaf, Pass}
 use Rattle.std.proofs.lemmas.List.{length-take}
-use Rattle.markdown_builder.specs.BuilderView.{BuilderView}
-use Rattle.markdown_builder.specs.declared.open_block.OpenBlock.{OpenBlock}
-use Rattle.markdown_plain.specs.Closable.{AreClosable}
-use Rattle.markdown_plain.specs.OpenBlocks.{without_leaf}
-use Rattle.markdown_plain.specs.declared.pass.Pass.{Pass}
 use Rattle.markdown_plain.proofs.ClosingDownLemmas.{one_closed}
 use Rattle.markdown_plain.proofs.OpenTablesLemmas.{not_down}
 use Rattle.markdown_plain.proofs.LeafTreesLemmas.{length_of_outer}
@@ -23,8 +19,7 @@ blocks-2-init c =
 
 pub blocks-2-preserved : goal.blocks-2-preserved
 blocks-2-preserved c =
-    let before = c.blocks-2.invariant in
-    let old = c.blocks-2.self.placing.builder.blocks in
+    let before = c.blocks-2.invariant in let old = c.blocks-2.self.placing.builder.blocks in
     let turn = c.blocks-2-test.true in
     let n = c.args.depth + (length c.end_leaf.new.self.placing.builder.blocks - (c.blocks-2._closed + 1)) in
     let next : c.args.depth + (length c.end_leaf.new.self.placing.builder.blocks - c.blocks-2._closed) ≡ suc n =
@@ -39,9 +34,7 @@ blocks-2-preserved c =
 -- what is open beyond the outermost blocks may be closed
 pub close_block-requires-clause-closable : goal.close_block-requires-clause-closable
 close_block-requires-clause-closable c =
-    let old = c.args.self.now in
-    let before = c.blocks-2.invariant in
-    let turn = c.blocks-2-test.true in
+    let old = c.args.self.now in let before = c.blocks-2.invariant in let turn = c.blocks-2-test.true in
     let open_ = not_down old c.args.depth (λ leaf lines few.
     let kept = before.closes.kept leaf lines (omega (arith, few)) in
     absurd (omega (

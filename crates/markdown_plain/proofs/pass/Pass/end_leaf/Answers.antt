@@ -1,10 +1,7 @@
 -- What has not ended is the last block in the innermost open container: a leaf that is closed, or a paragraph.
 use Rattle.std.proofs.Common.{◌≡◌, ◌∙◌, ◌==◌, ◌<◌, ap, false, true, arith, length, not, refl, rules, subst, sym}
 use Rattle.std.proofs.Common.{true≢false}
-use Rattle.std.proofs.lemmas.Bool.Decides.{nat_tests}
-use Rattle.markdown_plain.specs.OpenBlocks.{has_leaf}
-use Rattle.markdown_plain.specs.ParagraphSteps.{EndsTo}
-use Rattle.markdown_plain.specs.OpenLeaves.{is_table}
+use Rattle.markdown_plain.proofs.Names.{nat_tests, has_leaf, EndsTo, is_table}
 use Rattle.markdown_plain.proofs.ClosingDownLemmas.{leaf_ended}
 use Rattle.markdown_plain.proofs.OpenTablesLemmas.{none_held}
 use Rattle.markdown_plain.proofs.LinedLeavesLemmas.{closed_leaf}
@@ -31,8 +28,7 @@ returns-then-has_leaf c =
 pub returns-in_ok-end_paragraph : goal.returns-in_ok-end_paragraph
 returns-in_ok-end_paragraph c =
     let none : has_leaf c.args.self.now.placing.builder ≡ false = sym c.has_leaf.ensures ∙ c.if-has_leaf.false in
-    let old = c.args.self.now in
-    let some : 0 < length old.lines.items = search rules in
+    let old = c.args.self.now in let some : 0 < length old.lines.items = search rules in
     let ends = subst (EndsTo old.placing.builder c.end_paragraph.new.self.placing.builder)
     (past_end old.placing.builder.at old.lines.items some) c.in_ok-end_paragraph.ensures.ends in
     leaf_ended old _ (record {
@@ -56,8 +52,7 @@ returns-else-not-is_empty c =
     leaf_ended c.args.self.now c.args.self.now (record {
       leaf = λ s frames inside b open_still is open_in. absurd (true≢false (sym open_still ∙ none));
       paragraph = λ s frames inside b sources outside holds same.
-          let some = holds.some in
-          let empty : (length c.args.self.now.lines.items == 0) ≡ true = search rules in
+          let some = holds.some in let empty : (length c.args.self.now.lines.items == 0) ≡ true = search rules in
           absurd (grind (arith, nat_tests, empty, some));
       kept = λ leaf lines. refl;
       are = search rules;

@@ -24,9 +24,7 @@ returns c =
 -- a list in the way is closed with what is in it
 pub close_block-requires-clause-closable : goal.close_block-requires-clause-closable
 close_block-requires-clause-closable c =
-    let old = c.args.self.now in
-    let down = c.close_down.new.self in
-    let done = c.in_ok-close_down.ensures in
+    let old = c.args.self.now in let down = c.close_down.new.self in let done = c.in_ok-close_down.ensures in
     let list = sym c.is_in_list.ensures ∙ c.if-is_in_list.true in
     let filled = not_room old c.args.depth (λ room.
     let kept = done.kept room.leaf room.lines room.few in

@@ -5,9 +5,7 @@ use Rattle.markdown_plain.proofs.BegunItemsLemmas.{room_for}
 use Rattle.markdown_plain.proofs.pass.Pass.make_room_for.Goals as goal
 
 pub returns-clause-room : goal.returns-clause-room
-returns-clause-room c =
-    IfOk-weaker c.make_room.result _ _
-    (λ done room at start b may begins needs.
+returns-clause-room c = IfOk-weaker c.make_room.result _ _ (λ done room at start b may begins needs.
     room_for may.s c.args.self.now c.make_room.new.self c.args.rest.now may.turn may.source at start b may.blocks room
     may.here may.found begins needs) c.make_room.ensures
 
@@ -16,5 +14,4 @@ returns-clause-same c = IfOk-weaker c.make_room.result _ _ (λ done room. room.s
 
 pub make_room-requires : goal.make_room-requires
 make_room-requires c =
-    let may = c.requires.2 in
-    here_room may.s c.args.self.now c.args.rest.now may.turn may.source may.blocks may.here
+    let may = c.requires.2 in here_room may.s c.args.self.now c.args.rest.now may.turn may.source may.blocks may.here

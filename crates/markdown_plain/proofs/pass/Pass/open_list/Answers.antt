@@ -1,34 +1,27 @@
 -- The list goes on, or is one more open container.
-use Rattle.std.proofs.Common.{append_assoc, ap, arith, Bool, drop, ℕ, if◌then◌else◌, length, take, take_all, ◌≡◌, ◌∙◌}
-use Rattle.std.proofs.Common.{◌++◌, ◌∷◌, [], List, Option, Some, None, refl, sym, subst, rules, true, false}
-use Rattle.std.specs.Option.{option_map_or}
+use Rattle.std.proofs.Common.{ap, arith, Bool, ℕ, if◌then◌else◌, length, ◌≡◌, ◌∙◌, ◌∷◌, List, Option, Some, None, refl}
+use Rattle.std.proofs.Common.{sym, subst, rules, true, false}
+use Rattle.markdown_plain.proofs.Names.{option_map_or, ItemBody, Forest, nil, BuilderView, Opens, innermost_block}
+use Rattle.markdown_plain.proofs.Names.{OpenBlock, Source, Block, AreNested, Frame, innermost_is, is_item, is_list}
+use Rattle.markdown_plain.proofs.Names.{room_depth, outer_within, closed_in, with_frame, between, AreOpen, BlanksKnown}
+use Rattle.markdown_plain.proofs.Names.{IsLooseAs, ListMarker, Looseness, Pass, same_Some, nat_tests}
 use Rattle.std.proofs.lemmas.Bool.{true≢false}
-use Rattle.std.proofs.lemmas.List.{drop_all}
 use Rattle.std.proofs.lemmas.Result.{IfOk-weaker}
-use Rattle.markdown_base.specs.declared.item.ItemBody.{ItemBody}
 use Rattle.markdown_base.specs.declared.item.ItemBody.TheVariants as body
-use Rattle.markdown_base.specs.Forest.{Forest, nil}
-use Rattle.markdown_builder.specs.BuilderView.{BuilderView, Opens, innermost_block}
-use Rattle.markdown_builder.specs.declared.open_block.OpenBlock.{OpenBlock}
-use Rattle.markdown_base.specs.Source.{Source}
-use Rattle.markdown_block_rules.specs.BlockGrowth.{Block, list_container}
-use Rattle.markdown_plain.specs.Frames.{AreNested, Frame, innermost_is, is_item, is_list, rebuilt, room_depth}
-use Rattle.markdown_plain.specs.OpenedFrames.{with_frame, with_list}
+use Rattle.markdown_block_rules.specs.BlockGrowth.{list_container}
+use Rattle.markdown_plain.specs.OpenedFrames.{with_list}
 use Rattle.markdown_plain.specs.OpenBlocks.{is_list_of}
 use Rattle.markdown_plain.specs.OpenBlocks as own
-use Rattle.markdown_plain.specs.PassSteps.{HasList, HasOnly, between, opened}
-use Rattle.markdown_plain.specs.Settled.{AreOpen, BlanksKnown, IsLooseAs}
-use Rattle.markdown_lines.specs.declared.list_marker.ListMarker.{ListMarker}
-use Rattle.markdown_plain.specs.declared.looseness.Looseness.{Looseness}
-use Rattle.markdown_plain.specs.declared.pass.Pass.{Pass}
+use Rattle.markdown_plain.specs.PassSteps.{HasList, HasOnly, opened}
+use Rattle.markdown_plain.proofs.FramesLemmas.{all_within}
+use Rattle.std.specs.Option.{option_map}
 use Rattle.markdown_plain.proofs.ClosingDownLemmas.{ClosesList, looseness_begins, closed_list, keeps_rest, list_cleared}
 use Rattle.markdown_plain.proofs.ClosingDownLemmas.{built_only, no_list}
 use Rattle.markdown_plain.proofs.ReadyLinesLemmas.{some_opened}
-use Rattle.markdown_plain.proofs.FramesLemmas.{inner_last}
 use Rattle.markdown_plain.proofs.OpenedFramesLemmas.{list_for_item, list_goes_on, list_innermost, list_is}
 use Rattle.markdown_plain.proofs.OpenedFramesLemmas.{plain_is_built}
-use Rattle.markdown_plain.proofs.pass.Pass.open_list.Goals.{in-Some-List+else-character-marker}
-use Rattle.markdown_plain.proofs.pass.Pass.open_list.Goals.{After-add_block, in-Some+in-MaybeEmphasis-1, in-None-1}
+use Rattle.markdown_plain.proofs.pass.Pass.open_list.Goals.{in-Some-List+else-character-marker, After-add_block}
+use Rattle.markdown_plain.proofs.pass.Pass.open_list.Goals.{in-Some+in-MaybeEmphasis-1, in-None-1}
 use Rattle.markdown_plain.proofs.pass.Pass.open_list.Goals as goal
 
 -- an item more in the list that goes on
@@ -38,8 +31,8 @@ goes_on : (s : Source) (old : Pass) (new : Looseness) (marker : ListMarker) (fra
     → own.innermost_is own.is_list old.placing.builder.blocks ≡ true
     → ((texts : List (List ℕ)) (fs : List Frame) (below : Forest Block) → AreOpen texts old.placing.builder.blocks fs
     → AreNested fs → innermost_is is_list fs ≡ true → IsLooseAs old.looseness fs below
-    → BlanksKnown old.looseness.blank_from 0 fs below → is_item item.kind ≡ true
-    → IsLooseAs new (fs ++ record { before = below; block = item } ∷ []) nil)
+    → BlanksKnown old.looseness.blank_from fs below → is_item item.kind ≡ true
+    → IsLooseAs new (record { before = below; block = item } ∷ fs) nil)
     → HasOnly s old frames inside → is_item item.kind ≡ true
     → HasList s (record old { looseness = new }) marker list item frames inside
 goes_on s old new marker frames inside list item goes listed adds (between may known) items =
@@ -58,9 +51,18 @@ goes_on s old new marker frames inside list item goes listed adds (between may k
 goes_on s old new marker frames inside list item goes listed adds (opened may none) items =
     absurd (true≢false (sym listed ∙ (list_innermost s old.placing.builder frames nil may.built ∙ may.free)))
 
+-- a test of the innermost block's body
+body_tests : (test : ItemBody → Bool) (found : Option OpenBlock) (b : ItemBody)
+    → Some b ≡ option_map (λ (block : OpenBlock). block.body) found
+    → option_map_or (λ (block : OpenBlock). test block.body) found false ≡ test b
+body_tests test None b is = cc (is)
+body_tests test (Some block) b is = ap test (sym (same_Some b block.body is))
+
 pub returns-then-character-marker-clause-opens : goal.returns-then-character-marker-clause-opens
 returns-then-character-marker-clause-opens c = λ s frames inside list item only starts is items.
-    goes_on s c.args.self.now c.add_item.new.self c.args.marker frames inside list item (search rules) (search rules)
+    goes_on s c.args.self.now c.add_item.new.self c.args.marker frames inside list item
+    (body_tests (is_list_of c.args.marker.character) _ _ c.in-Some-List.ensures
+    ∙ rw (c.in-Some-List.field-0-is, c.if-character-marker.true) (grind (arith, nat_tests))) (search rules)
     (λ texts fs below these. c.add_item.ensures.begins texts fs below item (rw c.open_blocks.ensures these)) only items
 
 -- the innermost open block is no list with this character
@@ -113,8 +115,7 @@ is_cleared old now outside (no_list none same) =
 
 pub step_to-requires : goal.step_to-requires
 step_to-requires c =
-    let old = c.args.self.now in
-    let list = cleared (goal.at.step_to-requires c).After-add_block in
+    let old = c.args.self.now in let list = cleared (goal.at.step_to-requires c).After-add_block in
     let is = is_cleared old c.match-innermost.self c.requires.outside list in
     let text = (keeps_rest old c.match-innermost.self list).text in
     record {
@@ -125,8 +126,7 @@ step_to-requires c =
 pub returns-clause-here : goal.returns-clause-here
 returns-clause-here c =
     IfOk-weaker c.open_list.result _ _ (λ done read.
-    let opens = c.in_ok-open_block.ensures.opens in
-    let at = ap (λ (v : BuilderView). v.at) c.step_to.ensures.steps in
+    let opens = c.in_ok-open_block.ensures.opens in let at = ap (λ (v : BuilderView). v.at) c.step_to.ensures.steps in
     let now = ap (λ (v : BuilderView). v.at) opens in
     record {
       outside = ap (λ (v : BuilderView). v.leaf) opens;
@@ -138,21 +138,16 @@ returns-clause-here c =
 pub returns-clause-opens : goal.returns-clause-opens
 returns-clause-opens c =
     IfOk-weaker c.open_list.result _ _ (λ done begins s frames inside list item only starts is items.
-    let old = c.args.self.now in
-    let now = c.match-innermost.self in
-    let marker = c.args.marker in
-    let n = room_depth (length frames) frames in
-    let outer = take n frames in
-    let before = rebuilt (drop n frames) inside in
-    let built = built_only s old frames inside only in
+    let old = c.args.self.now in let now = c.match-innermost.self in let marker = c.args.marker in
+    let n = room_depth (length frames) frames in let outer = outer_within n frames in
+    let before = closed_in n frames inside in let built = built_only s old frames inside only in
     let none = sym (list_goes_on marker s old.placing.builder frames inside built) ∙ other c in
     let first : ItemBody = body.List true marker.character marker.first in
     let is_kind : is_list list.kind ≡ true = ap is_list is in
-    let f : Frame = record { before = before; block = list } in
-    let g : Frame = record { before = nil; block = item } in
     let place = cleared (goal.at.returns-clause-opens c).After-add_block in
+    let all = all_within frames (length frames) (omega arith) in
     let free = list_cleared s old now (length frames) frames inside (omega arith) built.nested
-    (rw (take_all (length frames) frames (omega arith), drop_all (length frames) frames (omega arith)) only) place in
+    (rw (all.0, all.1) only) place in
     let adds = looseness_begins s now c.add_block.new.self outer before
     (λ texts fs below these. c.add_block.ensures.begins texts fs below (rw c.open_blocks-2.ensures these)) free in
     record {
@@ -164,6 +159,6 @@ returns-clause-opens c =
           (list_container marker) first (list_is marker)
           (subst (λ (v : BuilderView). Opens v c.open_block.new.self.builder first) c.step_to.ensures.steps
           c.in_ok-open_block.ensures.opens) starts is free.free free.built;
-      listed = inner_last is_list outer f ∙ is_kind;
-      loose = rw (append_assoc outer (f ∷ []) (g ∷ [])) (begins outer before list item adds is_kind items);
+      listed = is_kind;
+      loose = begins outer before list item adds is_kind items;
     }) c.open_list.ensures.begins

@@ -1,11 +1,9 @@
 -- What begins is what the definition says, by what the reader found.
 use Rattle.std.proofs.Common.{◌≡◌, Bool, IfOk, Result, refl}
+use Rattle.markdown_plain.proofs.Names.{BlockStart, LineRest, Pass}
 use Rattle.std.proofs.lemmas.Result.{IfOk-weaker}
 use Rattle.std.specs.declared.alloc.AllocError.{AllocError}
-use Rattle.markdown_lines.specs.declared.block_start.BlockStart.{BlockStart}
 use Rattle.markdown_lines.specs.declared.block_start.BlockStart.TheVariants as start
-use Rattle.markdown_plain.specs.declared.beginnings.LineRest.{LineRest}
-use Rattle.markdown_plain.specs.declared.pass.Pass.{Pass}
 use Rattle.markdown_plain.specs.Beginning.{Begins, MayBeginBlock, Reads}
 use Rattle.markdown_plain.proofs.FoundPlacesLemmas.{Finds, may_begin, reads_block}
 use Rattle.markdown_plain.proofs.BegunLeavesLemmas.{nothing_fits}
@@ -34,19 +32,16 @@ module _ (c : In_ok-begun) where
   arm start new now result told is = IfOk-weaker result _ _ (λ more. reads_block start more finds is) told
 
 pub returns-in-Nothing : goal.returns-in-Nothing
-returns-in-Nothing c =
-    arm (goal.at.returns-in-Nothing c).In_ok-begun _ _ _ _
+returns-in-Nothing c = arm (goal.at.returns-in-Nothing c).In_ok-begun _ _ _ _
     (IfOk-weaker c.skip_blank.result _ _ (λ more told. told (rest (goal.at.returns-in-Nothing c).In_ok-begun)
     c.in_ok-begun.begun.at refl) c.skip_blank.ensures) c.in-Nothing.is
 
 pub returns-in-Text : goal.returns-in-Text
-returns-in-Text c =
-    arm (goal.at.returns-in-Text c).In_ok-begun _ _ _ _
+returns-in-Text c = arm (goal.at.returns-in-Text c).In_ok-begun _ _ _ _
     (IfOk-weaker c.read_text.result _ _ (λ more told. told start.Text tt) c.read_text.ensures) c.in-Text.is
 
 pub returns-in-IndentedCode : goal.returns-in-IndentedCode
-returns-in-IndentedCode c =
-    arm (goal.at.returns-in-IndentedCode c).In_ok-begun _ _ _ _
+returns-in-IndentedCode c = arm (goal.at.returns-in-IndentedCode c).In_ok-begun _ _ _ _
     (IfOk-weaker c.read_indented.result _ _ (λ more told. told c.in_ok-begun.begun.at) c.read_indented.ensures)
     c.in-IndentedCode.is
 
@@ -63,13 +58,11 @@ pub returns-in-Fence : goal.returns-in-Fence
 returns-in-Fence c = arm (goal.at.returns-in-Fence c).In_ok-begun _ _ _ _ c.read_fence.ensures c.in-Fence.is
 
 pub returns-in-Html : goal.returns-in-Html
-returns-in-Html c =
-    arm (goal.at.returns-in-Html c).In_ok-begun _ _ _ _
+returns-in-Html c = arm (goal.at.returns-in-Html c).In_ok-begun _ _ _ _
     (IfOk-weaker c.read_html.result _ _ (λ more told. told c.in_ok-begun.begun.at) c.read_html.ensures) c.in-Html.is
 
 pub returns-in-Footnote : goal.returns-in-Footnote
-returns-in-Footnote c =
-    arm (goal.at.returns-in-Footnote c).In_ok-begun _ _ _ _ c.read_footnote.ensures
+returns-in-Footnote c = arm (goal.at.returns-in-Footnote c).In_ok-begun _ _ _ _ c.read_footnote.ensures
     (rw (c.in-Footnote.label-is, c.in-Footnote.inside-is) c.in-Footnote.is)
 
 pub returns-in-Underline : goal.returns-in-Underline
@@ -84,8 +77,7 @@ pub returns-in-Item : goal.returns-in-Item
 returns-in-Item c = arm (goal.at.returns-in-Item c).In_ok-begun _ _ _ _ c.read_item.ensures c.in-Item.is
 
 pub returns-in-Metadata : goal.returns-in-Metadata
-returns-in-Metadata c =
-    arm (goal.at.returns-in-Metadata c).In_ok-begun _ _ _ _
+returns-in-Metadata c = arm (goal.at.returns-in-Metadata c).In_ok-begun _ _ _ _
     (IfOk-weaker c.read_metadata.result _ _ (λ more told. told c.in_ok-begun.begun.at) c.read_metadata.ensures)
     c.in-Metadata.is
 
@@ -93,8 +85,7 @@ returns-in-Metadata c =
 
 pub skip_blank-requires : goal.skip_blank-requires
 skip_blank-requires c =
-    let c' = (goal.at.skip_blank-requires c).In_ok-begun in
-    let begin = may c' start.Nothing c.in-Nothing.is in
+    let c' = (goal.at.skip_blank-requires c).In_ok-begun in let begin = may c' start.Nothing c.in-Nothing.is in
     nothing_fits begin.s c.args.self.now (rest c') begin.turn begin.source c.in_ok-begun.begun.at begin.blocks
     begin.here begin.found
 
@@ -123,8 +114,7 @@ pub read_html-requires : goal.read_html-requires
 read_html-requires c = (c.in_ok-begun.begun.at, may (goal.at.read_html-requires c).In_ok-begun _ c.in-Html.is)
 
 pub read_footnote-requires : goal.read_footnote-requires
-read_footnote-requires c =
-    rw (c.in-Footnote.label-is, c.in-Footnote.inside-is)
+read_footnote-requires c = rw (c.in-Footnote.label-is, c.in-Footnote.inside-is)
     (may (goal.at.read_footnote-requires c).In_ok-begun (start.Footnote c.in-Footnote.label c.in-Footnote.inside)
     c.in-Footnote.is)
 

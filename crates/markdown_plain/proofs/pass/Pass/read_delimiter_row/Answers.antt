@@ -1,20 +1,11 @@
 -- No paragraph that the line reaches, or no tables; and a table that begins, or none.
 use Rattle.std.proofs.Common.{◌≡◌, ◌∙◌, Some, None, List, Option, not, refl, true, false, sym, ap, true≢false}
+use Rattle.markdown_plain.proofs.Names.{Forest, Source, SourceLine, Block, reads_tables, Frame, Line, has_paragraph}
+use Rattle.markdown_plain.proofs.Names.{Pass, IsReachedBy, reached_of, IfParagraphLast, IsUntabled, Remembers}
 use Rattle.std.proofs.lemmas.Result.{IfOk-weaker}
 use Rattle.std.proofs.lemmas.Bool.{not-true}
-use Rattle.markdown_base.specs.Forest.{Forest}
-use Rattle.markdown_base.specs.Source.{Source}
-use Rattle.markdown_lines.specs.SourceLines.{SourceLine}
-use Rattle.markdown_block_rules.specs.BlockGrowth.{Block}
-use Rattle.markdown_block_rules.specs.TableLines.{reads_tables}
-use Rattle.markdown_plain.specs.Frames.{Frame}
-use Rattle.markdown_lines.specs.declared.line.Line.{Line}
-use Rattle.markdown_plain.specs.Paragraphs.{has_paragraph}
 use Rattle.markdown_plain.specs.Readable.{MayReadRest}
 use Rattle.markdown_plain.specs.declared.containers.Reached.{Reached}
-use Rattle.markdown_plain.specs.declared.pass.Pass.{Pass}
-use Rattle.markdown_plain.specs.ReachedLines.{IsReachedBy, reached_of}
-use Rattle.markdown_plain.specs.TableHeads.{IfParagraphLast, IsUntabled, Remembers}
 use Rattle.markdown_plain.proofs.PlacedTablesLemmas.{ReachesParagraph, row_fits, row_places, row_untabled}
 use Rattle.markdown_plain.proofs.ReadyTextsLemmas.{no_paragraph_last, of_paragraph, untabled_lazily}
 use Rattle.markdown_plain.proofs.pass.Pass.read_delimiter_row.Goals.{then-not-reached-via-then-not-reached}
@@ -50,14 +41,13 @@ returns-then-not-reached-clause-none c = λ _. record {
               absurd (true≢false (sym (no_paragraph_last s pass frames inside b sources by.stands.unended kind)
               ∙ (sym w.has_paragraph.ensures ∙ w.if-not-has_paragraph.true)))
           | then-not-reached-via-else-not-reached+else-not-has_paragraph+then-not-self w ↦
-              absurd (true≢false (sym reads
-              ∙ (sym (ap (λ (s : Source). reads_tables s) by.stands.source)
+              absurd (true≢false (sym reads ∙ (sym (ap (λ (s : Source). reads_tables s) by.stands.source)
               ∙ w.if-not-self.true)))
         ]) by.stands.remembers
 
 -- the line reaches the open paragraph, where tables are read
 reaches : {pass : Pass} {line : Line} {found : Reached}
-    (may : MayReadRest pass.placing.builder.text pass line found false) → not found.all ≡ false
+    (may : MayReadRest pass line found false) → not found.all ≡ false
     → has_paragraph pass ≡ true → pass.syntax.tables ≡ true
     → ReachesParagraph may.s pass line found may.before may.source
 reaches may all some reads = record {

@@ -1,19 +1,12 @@
 -- The line is text, the delimiter row of a table, or what is left of it is read turn by turn.
-use Rattle.std.proofs.Common.{◌≡◌, ◌∙◌, List, ℕ, ap, false, sym, subst}
+use Rattle.std.proofs.Common.{◌≡◌, ◌∙◌, List, ℕ, ap, false, refl, subst}
+use Rattle.markdown_plain.proofs.Names.{Source, with_line, Pass, LineRest, Line, first, blocks_before, reached_of}
+use Rattle.markdown_plain.proofs.Names.{PlacesFor, IsTextFrom}
 use Rattle.std.specs.Str.{IsUtf8}
 use Rattle.std.proofs.lemmas.Result.{IfOk-weaker}
-use Rattle.markdown_base.specs.Source.{Source}
-use Rattle.markdown_block_rules.specs.BlockGrowth.{with_line}
-use Rattle.markdown_plain.specs.declared.pass.Pass.{Pass}
-use Rattle.markdown_plain.specs.declared.beginnings.LineRest.{LineRest}
 use Rattle.markdown_plain.specs.declared.containers.Reached as code
-use Rattle.markdown_lines.specs.declared.line.Line.{Line}
-use Rattle.markdown_plain.specs.Beginning.{IsMadeOf, MayRead, first}
+use Rattle.markdown_plain.specs.Beginning.{IsMadeOf, MayRead}
 use Rattle.markdown_plain.specs.Readable.{IsNoDelimiterRow, MayReadAsText, MayReadRest}
-use Rattle.markdown_plain.specs.TableHeads.{IfParagraphLast, IsUntabled}
-use Rattle.markdown_plain.specs.ReachedLines.{IsReachedBy, blocks_before, reached_of}
-use Rattle.markdown_plain.specs.Standing.{PlacesFor}
-use Rattle.markdown_plain.specs.TextLines.{IsTextFrom}
 use Rattle.markdown_plain.proofs.TurnsLemmas.{first_turn}
 use Rattle.markdown_plain.proofs.ReadyLinesLemmas.{stop_read}
 use Rattle.markdown_plain.proofs.TextReachedLemmas.{text_reached}
@@ -22,10 +15,10 @@ use Rattle.markdown_plain.proofs.pass.Pass.read_filled.Goals.{then-not-branch+in
 use Rattle.markdown_plain.proofs.pass.Pass.read_filled.Goals as goal
 
 -- the line may be read as text, where its first byte shows that it is
-abbrev as_text : {text : List ℕ} {pass : Pass} {line : Line} {found : code.Reached}
+abbrev as_text : {pass : Pass} {line : Line} {found : code.Reached}
     → IsTextFrom pass.placing.builder.text found.position line.stop → IsUtf8 pass.placing.builder.text
-    → MayReadRest text pass line found false → MayReadAsText pass line found.position.at found.depth
-as_text {text} {pass} {line} {found} shows utf8 may = record {
+    → MayReadRest pass line found false → MayReadAsText pass line found.position.at found.depth
+as_text {pass} {line} {found} shows utf8 may = record {
   s = may.s;
   before = may.before;
   source = may.source;
@@ -38,53 +31,30 @@ as_text {text} {pass} {line} {found} shows utf8 may = record {
 pub returns-then-is_text_from-clause-reads : goal.returns-then-is_text_from-clause-reads
 returns-then-is_text_from-clause-reads c =
     IfOk-weaker c.read_text_line.result _ _ (λ done told. record {
-      stands = λ may. told.stands (as_text
-          (subst (λ (text : List ℕ). IsTextFrom text c.args.reached.position c.args.line.stop) c.text.ensures
-          (c.is_text_from.ensures c.if-is_text_from.true)) (subst IsUtf8 c.text.ensures c.text.utf8) may);
+      stands = λ may. told.stands (as_text (rw (← c.text.ensures) (c.is_text_from.ensures c.if-is_text_from.true))
+          (rw (← c.text.ensures) c.text.utf8) may);
       tables = told.tables;
-    })
-    c.read_text_line.ensures
+    }) c.read_text_line.ensures
 
 pub read_text_line-requires : goal.read_text_line-requires
 read_text_line-requires c =
-    as_text (subst (λ (text : List ℕ). IsTextFrom text c.args.reached.position c.args.line.stop) c.text.ensures
-    (c.is_text_from.ensures c.if-is_text_from.true)) (subst IsUtf8 c.text.ensures c.text.utf8) c.requires
-
--- it may be read as the delimiter row of a table
-abbrev as_row : {text : List ℕ} {pass : Pass} {line : Line} {found : code.Reached}
-    → MayReadRest text pass line found false → MayReadRest pass.placing.builder.text pass line found false
-as_row {text} {pass} {line} {found} may = record {
-  s = may.s;
-  before = may.before;
-  source = may.source;
-  same = ap (λ (s : Source). s.text) may.by.stands.source;
-  by = may.by;
-  left = may.left;
-  off = may.off;
-}
-
-pub read_delimiter_row-requires : goal.read_delimiter_row-requires
-read_delimiter_row-requires c = as_row c.requires
+    as_text (rw (← c.text.ensures) (c.is_text_from.ensures c.if-is_text_from.true))
+    (rw (← c.text.ensures) c.text.utf8) c.requires.may
 
 -- what is read turn by turn, where the line is none
-abbrev as_turns : {text : List ℕ} {old now : Pass} {line : Line} {found : code.Reached} {rest : LineRest}
+abbrev as_turns : {old now : Pass} {line : Line} {found : code.Reached} {rest : LineRest} {text : List ℕ}
     → IsUtf8 old.placing.builder.text → IsNoDelimiterRow old line found now → rest.line ≡ line
-    → ((s : Source) → text ≡ s.text → IsMadeOf s now found rest) → MayReadRest text old line found false
-    → MayRead now rest
-as_turns {text} {old} {now} {line} {found} {rest} utf8 none own made may =
-    let s = may.s in
-    let before = may.before in
-    let source = may.source in
+    → ((s : Source) → text ≡ s.text → IsMadeOf s now found rest) → text ≡ old.placing.builder.text
+    → MayReadRest old line found false → MayRead now rest
+as_turns {old} {now} {line} {found} {rest} utf8 none own made same may =
+    let s = may.s in let before = may.before in let source = may.source in
     record {
       s = s;
       turn = first before source;
       source = (reached_of s before source).rest;
       blocks = with_line s (blocks_before before) source;
-      here = first_turn s old now found before source rest none.same utf8
-          (subst (λ (l : Line). IfParagraphLast s (IsUntabled s now l.start (reached_of s before source)) before.last)
-          (sym own) (none.untabled (as_row may)))
-          (subst (λ (l : Line). IsReachedBy s old l found before source) (sym own) may.by) (made s may.same) may.left
-          may.off;
+      here = first_turn s old now found before source rest none.same utf8 (rw own (none.untabled may)) (rw own may.by)
+          (made s (same ∙ ap (λ (s : Source). s.text) may.by.stands.source)) may.left may.off;
     }
 
 pub returns-clause-reads : goal.returns-clause-reads
@@ -96,12 +66,10 @@ returns-clause-reads c = record {
         | then-not-branch+in_ok-read_rest w ↦
             let read = w.in_ok-read_rest.ensures.begun (as_turns (subst IsUtf8 c.text.ensures c.text.utf8)
             (c.in_ok-read_delimiter_row.ensures.none w.if-not-branch.true) w.rest_of-rest.ensures.line
-            w.rest_of-rest.ensures.made may) in
-            subst (λ (p : Pass). PlacesFor may.s p c.args.line.next blocks) (sym w.self-is)
-            (subst (λ (l : Line). PlacesFor may.s w.read_rest.new.self l.next blocks) w.rest_of-rest.ensures.line read)
+            w.rest_of-rest.ensures.made c.requires.text may) in
+            rw (w.self-is, ← w.rest_of-rest.ensures.line) read
         | else-not-branch w ↦
-            subst (λ (p : Pass). PlacesFor may.s p c.args.line.next blocks) (sym w.self-is)
-            ((c.in_ok-read_delimiter_row.ensures.row w.if-not-branch.false).places (as_row may))
+            rw w.self-is ((c.in_ok-read_delimiter_row.ensures.row w.if-not-branch.false).places may)
       ] in
       c.see_content.ensures.stands may.s blocks done;
   tables =
@@ -121,8 +89,7 @@ pub read_rest-requires : goal.read_rest-requires
 read_rest-requires c =
     as_turns (subst IsUtf8 c.text.ensures c.text.utf8)
     (c.in_ok-read_delimiter_row.ensures.none c.if-not-branch.true) c.rest_of-rest.ensures.line
-    c.rest_of-rest.ensures.made c.requires
+    c.rest_of-rest.ensures.made c.requires.text c.requires.may
 
 pub rest_of-rest-requires : goal.rest_of-rest-requires
-rest_of-rest-requires c =
-    stop_read c.args.self.now c.args.line c.requires.same c.requires.by.stands.source c.requires.by.is.from
+rest_of-rest-requires c = stop_read c.args.self.now c.args.line c.requires.text refl c.requires.may.by.is.from

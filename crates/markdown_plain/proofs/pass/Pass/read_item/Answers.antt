@@ -1,6 +1,5 @@
 -- The rest of the line is read inside the item.
-use Rattle.std.proofs.Common.{rules, subst}
-use Rattle.std.specs.Str.{IsCharBoundary}
+use Rattle.std.proofs.Common.{rules}
 use Rattle.markdown_plain.proofs.BegunItemsLemmas.{item_reads_on, may_open_item}
 use Rattle.markdown_plain.proofs.FoundBlocksLemmas.{here_text}
 use Rattle.markdown_plain.proofs.pass.Pass.read_item.Goals as goal
@@ -8,16 +7,11 @@ use Rattle.markdown_plain.proofs.pass.Pass.read_item.Goals as goal
 pub returns : goal.returns
 returns c = record {
   begun = λ may.
-      let old = c.args.self.now in
-      let rest = c.args.rest.now in
-      let opens = c.in_ok-open_item.ensures in
+      let old = c.args.self.now in let rest = c.args.rest.now in
       rw c.go_inside.ensures.more (item_reads_on may.s old c.open_item.new.self rest c.go_inside.new.rest may.turn
-      may.source may.blocks c.args.item
-      c.args.at may.here may.found
-      (subst (λ text. IsCharBoundary text c.args.item.inside.at)
-      (here_text may.s old rest may.turn may.source may.blocks may.here) may.stands)
-      c.go_inside.ensures.goes
-      opens);
+      may.source may.blocks c.args.item c.args.at may.here may.found
+      (rw (here_text may.s old rest may.turn may.source may.blocks may.here) at may.stands) c.go_inside.ensures.goes
+      c.in_ok-open_item.ensures);
   tables = search rules;
 }
 

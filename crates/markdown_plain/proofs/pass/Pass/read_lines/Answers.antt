@@ -1,10 +1,8 @@
 -- The pass stands for the blocks of the lines that were read, and then all of them are closed.
-use Rattle.std.proofs.Common.{◌≡◌, ◌<◌, ◌≤◌, ◌∙◌, List, ap, arith, length, rules, subst, sym, ℕ}
-use Rattle.std.specs.Str.{IsCharBoundary, IsUtf8}
+use Rattle.std.proofs.Common.{◌≡◌, ◌<◌, ◌≤◌, ◌∙◌, List, ap, arith, length, rules, sym, ℕ}
 use Rattle.std.proofs.lemmas.Result.{IfOk-weaker}
 use Rattle.std.proofs.lemmas.Str.{IsCharBoundary-start}
 use Rattle.markdown_base.specs.Source.{Source}
-use Rattle.markdown_lines.specs.Lines.{IsLineFrom}
 use Rattle.markdown_plain.specs.Readable.{MayReadText}
 use Rattle.markdown_plain.specs.declared.pass.Pass.{Pass}
 use Rattle.markdown_plain.proofs.ReadyLinesLemmas.{next_between}
@@ -34,11 +32,10 @@ next c may =
     let text = own_text c.text-text.ensures may in
     record {
       same = c.lines.invariant.ahead ∙ text;
-      less = subst (λ (text : List ℕ). c.lines.from < length text) text less;
-      is = subst (λ (text : List ℕ). IsLineFrom text c.lines.from c.line_from-line.result) text
-          (c.line_from-line.ensures.value (omega (arith, less)));
-      boundary = subst (λ (text : List ℕ). IsCharBoundary text c.lines.from) text c.lines.invariant.boundary;
-      utf8 = subst IsUtf8 text c.text-text.utf8;
+      less = rw (← text) less;
+      is = rw (← text) (c.line_from-line.ensures.value (omega (arith, less)));
+      boundary = rw (← text) c.lines.invariant.boundary;
+      utf8 = rw (← text) c.text-text.utf8;
     }
 
 pub lines-preserved : goal.lines-preserved
@@ -55,25 +52,19 @@ lines-preserved c =
     }
 
 pub returns-clause-built : goal.returns-clause-built
-returns-clause-built c =
-    IfOk-weaker c.close_down.result _ _ (λ done closes may.
+returns-clause-built c = IfOk-weaker c.close_down.result _ _ (λ done closes may.
     let end : length c.text-text.result.now ≤ c.lines.from = search rules in
-    let text = c.text-text.ensures ∙ ap (λ (s : Source). s.text) may.stands.source in
-    whole_text may.s c.lines.self c.close_down.new.self c.lines.from
-    (subst (λ (text : List ℕ). length text ≤ c.lines.from) text end) (c.lines.invariant.made may) closes)
-    c.close_down.ensures
+    whole_text may.s c.lines.self c.close_down.new.self c.lines.from (rw (← own_text c.text-text.ensures may) end)
+    (c.lines.invariant.made may) closes) c.close_down.ensures
 
 pub returns-clause-left : goal.returns-clause-left
-returns-clause-left c =
-    IfOk-weaker c.close_down.result _ _ (λ done closes.
-    let may = c.requires in
+returns-clause-left c = IfOk-weaker c.close_down.result _ _ (λ done closes.
     let end : length c.text-text.result.now ≤ c.lines.from = search rules in
-    let so_far = c.lines.invariant.made may in
+    let so_far = c.lines.invariant.made c.requires in
     let whole = closes.text ∙ (ap (λ (s : Source). s.text) so_far.stands.stands.source
-    ∙ sym (own_text c.text-text.ensures may)) in
-    white_left may.s c.lines.self c.close_down.new.self c.lines.from
-    (subst (λ (text : List ℕ). length text ≤ c.lines.from) (sym whole) end) so_far closes.here closes.are closes.text)
-    c.close_down.ensures
+    ∙ sym (own_text c.text-text.ensures c.requires)) in
+    white_left c.requires.s c.lines.self c.close_down.new.self c.lines.from (rw whole end) so_far closes.here closes.are
+    closes.text) c.close_down.ensures
 
 -- ---- the calls
 

@@ -1,6 +1,5 @@
 -- At each turn a block begins, of which more is to be read, or not.
-use Rattle.std.proofs.Common.{List, ℕ, arith, rules, subst}
-use Rattle.markdown_plain.specs.TextLines.{IsTextFrom}
+use Rattle.std.proofs.Common.{arith, rules}
 use Rattle.markdown_plain.proofs.TurnsLemmas.{before_turns, last_turn, may_still, next_turn, text_turn, turns_end}
 use Rattle.markdown_plain.proofs.OpenTablesLemmas.{here_room}
 use Rattle.markdown_plain.proofs.pass.Pass.read_rest.Goals as goal
@@ -14,9 +13,7 @@ blocks-2-preserved c = next_turn c.blocks-2.invariant c.if-not-branch.false c.in
 pub returns-in_ok-add_text : goal.returns-in_ok-add_text
 returns-in_ok-add_text c =
     text_turn (next_turn c.blocks-2.invariant c.if-not-branch.false c.in_ok-read_block.ensures) c.in_ok-add_text.ensures
-    (search rules)
-    (subst (λ (text : List ℕ). IsTextFrom text c.read_block.new.rest.position c.read_block.new.rest.line.stop)
-    c.text.ensures (c.is_text_from.ensures c.if-is_text_from.true))
+    (search rules) (rw (← c.text.ensures) (c.is_text_from.ensures c.if-is_text_from.true))
 
 pub returns-then-not-branch : goal.returns-then-not-branch
 returns-then-not-branch c = last_turn c.blocks-2.invariant c.if-not-branch.true c.in_ok-read_block.ensures

@@ -8,8 +8,7 @@ returns c = record {
   stands = λ may.
       c.see_content.ensures.stands may.s _
       (text_places may.s c.args.self.now c.add_text.new.self c.args.line c.args.start c.args.depth may.source
-      c.in_ok-add_text.ensures
-      may.is may.before.frames may.before.inside may.before.last may.untabled
+      c.in_ok-add_text.ensures may.is may.before.frames may.before.inside may.before.last may.untabled
       (stands_holds may.s c.args.self.now may.before.frames may.before.inside may.before.last c.args.line.start
       may.stands) may.here);
   tables = search rules;
