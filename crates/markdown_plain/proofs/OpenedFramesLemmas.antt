@@ -28,7 +28,8 @@ use Rattle.markdown_block_rules.specs.BlockGrowth.{table_after, with_lazy_text, 
 use Rattle.markdown_plain.specs.Settled.{levels_shown}
 use Rattle.markdown_plain.specs.OpenedFrames.{is_list_for, quote_kind, with_item, with_list}
 use Rattle.markdown_plain.specs.OpenBlocks.{is_list_of}
-use Rattle.markdown_block_rules.proofs.GrowthLemmas.{chosen, mapped, or_both, unwrapped}
+use Rattle.markdown_base.proofs.OptionLemmas.{if_or}
+use Rattle.markdown_block_rules.proofs.GrowthLemmas.{chosen, mapped, unwrapped}
 use Rattle.markdown_base.specs.declared.item.ItemBody.TheVariants as body
 use Rattle.markdown_block_rules.specs.BlockGrowth as was
 use Rattle.markdown_plain.specs.OpenBlocks as own
@@ -461,7 +462,7 @@ lazy_placed : (in_list : Bool) (m : SourceLine) (blocks : Forest Block) → AreI
 unfolding with_lazy
 lazy_placed in_list m nil are = tt
 lazy_placed in_list m (node b below nil) are =
-    or_both (AreItemsInLists in_list) (with_lazy_text m b below b.kind) _
+    if_or (AreItemsInLists in_list) (with_lazy_text m b below b.kind) _
     (lazy_text_placed in_list m b below b.kind are.0 are.1)
     (mapped (AreItemsInLists (is_list b.kind)) (AreItemsInLists in_list) _ (λ f placed. (are.0, placed, tt))
     (with_lazy m below) (lazy_placed (is_list b.kind) m below are.1))
@@ -486,7 +487,7 @@ module _ (s : Source) (m : SourceLine) (below : Forest Block) (inner : SourceLin
   container_placed was.quote_container are placed = rest_placed are placed (past_quote m.left)
   container_placed (was.alert_container kind) are placed = rest_placed are placed (past_quote m.left)
   container_placed (was.list_container marker) are placed =
-      or_both (AreItemsInLists true) (inner m) _ (placed m)
+      if_or (AreItemsInLists true) (inner m) _ (placed m)
       (mapped (AreItemsInLists true) (AreItemsInLists true) _ (λ new more. both_placed true below new are more)
       (next_item s m marker) (next_placed s m marker))
   container_placed (was.item_container indent) are placed =
@@ -500,8 +501,8 @@ module _ (s : Source) (m : SourceLine) (below : Forest Block) (inner : SourceLin
       → ((n : SourceLine) → IfSome (inner n) (AreItemsInLists (is_list b.kind)))
       → IfSome (block_with s m b below inner) (AreItemsInLists in_list)
   block_placed in_list b may are placed =
-      or_both (AreItemsInLists in_list) (table_with s m b b.kind) _ (table_placed in_list s m b b.kind may)
-      (or_both (AreItemsInLists in_list) (option_map _ (leaf_with s m b.kind)) _
+      if_or (AreItemsInLists in_list) (table_with s m b b.kind) _ (table_placed in_list s m b b.kind may)
+      (if_or (AreItemsInLists in_list) (option_map _ (leaf_with s m b.kind)) _
       (mapped (IsPlacedAs b.kind) (AreItemsInLists in_list) _
       (λ kind same. (λ e. same.1 ∙ may (sym same.0 ∙ e), rw same.2 are, tt)) (leaf_with s m b.kind)
       (leaf_same s m b.kind))
